@@ -1,0 +1,1 @@
+// The cases of bore K that document 01 marks K, as theorems about the definitions: specs/Table.antt. No code.

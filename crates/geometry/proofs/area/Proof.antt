@@ -1,0 +1,36 @@
+-- `geometry::area` meets its contract: the squares are at most 4×10^12. Assumes nothing.
+use mathlib.Core.Path.{_∙_}
+use Prim.Native.Nat.{_*_, _-_, _≤_}
+use native.Mathlib.Omega.{arith}
+use Rattle.geometry.proofs.Laws.{product-fits, square-at-most, area-is, area-small}
+use Rattle.geometry.proofs.area.Statement.{statement}
+use Rattle.geometry.proofs.area.Tie as tie
+
+mul-quotient-word : tie.Need-mul-quotient-word
+mul-quotient-word c = product-fits 2000000 2000000 (omega arith) (omega arith) (omega arith)
+
+mul-quotient-word-2 : tie.Need-mul-quotient-word-2
+mul-quotient-word-2 c = product-fits 2000000 2000000 (omega arith) (omega arith) (omega arith)
+
+sub-quotient-word : tie.Need-sub-quotient-word
+sub-quotient-word c = omega (arith, square-at-most (c .args .outer) {a = c .args .inner} (omega arith))
+
+quotient-word-requires : tie.Need-quotient-word-requires
+quotient-word-requires c κs =
+    let h : c .args .outer * c .args .outer ≤ 2000000 * 2000000 = square-at-most 2000000 (omega arith) in
+    (omega arith, omega (arith, area-small (c .args .outer * c .args .outer - c .args .inner * c .args .inner) (omega arith)))
+
+returns : tie.Need-returns
+returns c =
+    let h : c .before .args .outer * c .before .args .outer ≤ 2000000 * 2000000 = square-at-most 2000000 (omega arith) in
+    (c .quotient-word .ensures ∙ area-is (c .before .args .outer) (c .before .args .inner), omega (arith, area-small (c .before .args .outer * c .before .args .outer - c .before .args .inner * c .before .args .inner) (omega arith)))
+
+pub area-spec : {M : Type 1} → statement M
+area-spec =
+    tie.close
+    (tie.spec
+    mul-quotient-word
+    mul-quotient-word-2
+    sub-quotient-word
+    quotient-word-requires
+    returns)

@@ -1,0 +1,50 @@
+-- `geometry::vertical` meets its contract: the divisor is above 0 where neither conductivity is 0. Assumes nothing.
+use mathlib.Core.Path.{sym, ap, _∙_}
+use Prim.Native.Nat.{_*_, _≤_}
+use native.Mathlib.Omega.{arith}
+use Rattle.words.specs.Fitted.{fitted}
+use Rattle.geometry.proofs.Laws.{product-at-most, sum-fits, product-fits, closed-above, closed-below, divisor-above, both-open}
+use borrow.Author.Needs.{needs}
+use Rattle.geometry.proofs.vertical.Statement.{statement}
+use Rattle.geometry.proofs.vertical.Tie as tie
+
+returns : tie.Need-returns
+returns c = closed-above _ _ _ _ _ (c .if1 .taken)
+
+returns-2 : tie.Need-returns-2
+returns-2 c = closed-below _ _ _ _ _ (c .if2 .taken)
+
+mul-quotient : tie.Need-mul-quotient
+mul-quotient c = search needs
+
+mul-quotient-2 : tie.Need-mul-quotient-2
+mul-quotient-2 c = product-fits 100000000 100000000 (omega arith) (omega arith) (omega arith)
+
+mul-quotient-3 : tie.Need-mul-quotient-3
+mul-quotient-3 c = product-fits 1000000 100000000 (omega arith) (omega arith) (omega arith)
+
+mul-quotient-4 : tie.Need-mul-quotient-4
+mul-quotient-4 c = product-fits 1000000 100000000 (omega arith) (omega arith) (omega arith)
+
+add-quotient : tie.Need-add-quotient
+add-quotient c = sum-fits (1000000 * 100000000) _ _ (product-at-most 1000000 100000000 (omega arith) (omega arith)) (product-at-most 1000000 100000000 (omega arith) (omega arith)) (omega arith)
+
+quotient-requires : tie.Need-quotient-requires
+quotient-requires c κs = divisor-above (c .before .before .args .a) _ _ _ _ (omega arith) (c .if2 .left)
+
+returns-3 : tie.Need-returns-3
+returns-3 c = c .quotient .ensures ∙ sym (ap fitted (both-open _ _ _ _ _ (c .before .before .if1 .left) (c .before .if2 .left)))
+
+pub vertical-spec : {M : Type 1} → statement M
+vertical-spec =
+    tie.close
+    (tie.spec
+    returns
+    returns-2
+    mul-quotient
+    mul-quotient-2
+    mul-quotient-3
+    mul-quotient-4
+    add-quotient
+    quotient-requires
+    returns-3)

@@ -1,0 +1,86 @@
+// Geometry to coefficients, a function for each rule of document 01. What they ask of their callers are the limits of rules 3 and 4.
+use words::Quotient;
+use words::divide::quotient;
+use words::divide::quotient_word;
+ghost use mathlib.Core.Path.{_≡_};
+ghost use Prim.Native.Nat.{_+_, _*_, _<_, _≤_, _^_};
+ghost use Rattle.words.specs.Fitted.{fitted};
+ghost use Rattle.geometry.specs.Geometry.{terms, logarithm, area, horizontal, vertical, unconfinedStorage, confinedStorage, wellStorage};
+
+// The sum of the terms of a logarithm's series, from z and w.
+fn series(z: u64, w: u64) -> u64
+    requires { ⌜ (z ≤ 2 ^ 29) × (w ≤ 2 ^ 28) ⌝ }
+    ensures { λ r. ⌜ (r ≡ terms 16 w 0 z) × (r ≤ 2 ^ 33) ⌝ }
+{
+    let mut sum = 0;
+    let mut t = z;
+    let mut k = 0;
+    while k < 16 {
+        sum += t / (2 * k + 1);
+        t = t * w / 1073741824;
+        k += 1;
+    }
+    sum
+}
+
+// Λ(p, q). It is above 0, so that it divides.
+pub fn logarithm(p: u64, q: u64) -> u64
+    requires { ⌜ (q < p) × (p ≤ 3 * q) × (p ≤ 4000000) ⌝ }
+    ensures { λ r. ⌜ (r ≡ logarithm p q) × (0 < r) ⌝ }
+{
+    let z = (p - q) * 1073741824 / (p + q);
+    2 * series(z, z * z / 1073741824)
+}
+
+// Area of a column between two radii, mm²: below 2^44 for radii in their limits.
+pub fn area(outer: u64, inner: u64) -> u64
+    requires { ⌜ (inner ≤ outer) × (outer ≤ 2000000) ⌝ }
+    ensures { λ r. ⌜ (r ≡ area outer inner) × (r ≤ 2 ^ 44) ⌝ }
+{
+    quotient_word(3373259426, outer * outer - inner * inner, 1073741824)
+}
+
+// Horizontal C of a layer between two columns, of which `log` is the logarithm of their midsection radii.
+pub fn horizontal(b: u64, kh: u64, log: u64) -> Quotient
+    requires { ⌜ (b ≤ 1000000) × (kh ≤ 100000000) × (0 < log) ⌝ }
+    ensures { λ r. ⌜ r ≡ fitted (horizontal b kh log) ⌝ }
+{
+    quotient(b * kh, 6746518852, log)
+}
+
+// Vertical C over an area between a layer and the one below it; 0 if either lets no water through.
+pub fn vertical(a: u64, b1: u64, kv1: u64, b2: u64, kv2: u64) -> Quotient
+    requires { ⌜ (a ≤ 2 ^ 44) × (0 < b1) × (b1 ≤ 1000000) × (kv1 ≤ 100000000) × (b2 ≤ 1000000) × (kv2 ≤ 100000000) ⌝ }
+    ensures { λ r. ⌜ r ≡ fitted (vertical a b1 kv1 b2 kv2) ⌝ }
+{
+    if kv1 == 0 {
+        return Quotient::Word(0);
+    }
+    if kv2 == 0 {
+        return Quotient::Word(0);
+    }
+    quotient(a * 2, kv1 * kv2, b1 * kv2 + b2 * kv1)
+}
+
+// S of a cell of layer 1.
+pub fn unconfined_storage(a: u64, y: u64) -> Quotient
+    ensures { λ r. ⌜ r ≡ fitted (unconfinedStorage a y) ⌝ }
+{
+    quotient(a, y, 1)
+}
+
+// S of a cell below layer 1.
+pub fn confined_storage(a: u64, b: u64, storage: u64) -> Quotient
+    requires { ⌜ (b ≤ 1000000) × (storage ≤ 1000000) ⌝ }
+    ensures { λ r. ⌜ r ≡ fitted (confinedStorage a b storage) ⌝ }
+{
+    quotient(a, b * storage, 1000000)
+}
+
+// S of the well.
+pub fn well_storage(w: u64) -> u64
+    requires { ⌜ w ≤ 1000000000 ⌝ }
+    ensures { λ r. ⌜ r ≡ wellStorage w ⌝ }
+{
+    w * 1000000
+}

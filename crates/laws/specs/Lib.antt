@@ -1,0 +1,4 @@
+pub mod All
+pub mod Divide
+pub mod Every
+pub mod Number

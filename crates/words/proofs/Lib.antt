@@ -1,0 +1,3 @@
+-- Lemmas on plain numbers that more than one function's proof cites.
+mod Columns
+mod Parts

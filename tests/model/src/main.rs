@@ -1,0 +1,81 @@
+//! The command `model`: what the reference model says of a scenario on standard input.
+
+use reference_model::{listing, logarithm, report, scenarios};
+use std::io::{self, BufWriter, Read, Write};
+use std::process::ExitCode;
+
+const USAGE: &str = "usage: model listing|readings|sums|start|brief < scenario
+       model entry NUMBER < scenario
+       model scenarios SEED COUNT DIRECTORY
+       model lambda < lines of 'p q' or 'p q value'";
+
+fn main() -> ExitCode {
+    let arguments: Vec<String> = std::env::args_os().skip(1).map(|word| word.to_string_lossy().into_owned()).collect();
+    let words: Vec<&str> = arguments.iter().map(String::as_str).collect();
+    match run(&words) {
+        Ok(()) => ExitCode::SUCCESS,
+        Err(message) => {
+            eprintln!("model: {message}");
+            ExitCode::FAILURE
+        }
+    }
+}
+
+/// Does what the words ask, or says what is wrong.
+fn run(words: &[&str]) -> Result<(), String> {
+    let mut out = BufWriter::new(io::stdout().lock());
+    match words {
+        ["listing"] => written(listing::write(&input()?, &mut out)),
+        ["readings"] => written(report::write_readings(&input()?, &mut out)),
+        ["sums"] => written(report::write_sums(&input()?, &mut out)),
+        ["start"] => written(report::write_start(&input()?, &mut out)),
+        ["brief"] => written(report::write_brief(&input()?, &mut out)),
+        ["entry", number] => {
+            let number = whole("NUMBER", number)?;
+            written(report::write_entry(&input()?, number, &mut out))
+        }
+        ["scenarios", seed, count, directory] => {
+            let (seed, count) = (whole("SEED", seed)?, whole("COUNT", count)?);
+            scenarios::write_all(seed, count, directory)
+                .map_err(|error| format!("cannot write to {directory}: {error}"))
+        }
+        ["lambda"] => lambda(&input()?, &mut out),
+        _ => Err(format!("bad arguments\n{USAGE}")),
+    }?;
+    written(out.flush())
+}
+
+/// All of standard input.
+fn input() -> Result<Vec<u8>, String> {
+    let mut bytes = Vec::new();
+    io::stdin().lock().read_to_end(&mut bytes).map_err(|error| format!("cannot read standard input: {error}"))?;
+    Ok(bytes)
+}
+
+fn written(outcome: io::Result<()>) -> Result<(), String> {
+    outcome.map_err(|error| format!("cannot write standard output: {error}"))
+}
+
+fn whole(name: &str, word: &str) -> Result<u64, String> {
+    let digits = !word.is_empty() && word.bytes().all(|byte| byte.is_ascii_digit());
+    let number = if digits { word.parse().ok() } else { None };
+    number.ok_or_else(|| format!("{name} is no whole number of 64 bits: {word}\n{USAGE}"))
+}
+
+/// Answers lines `p q`, holds lines `p q value`, and says the worst of those held.
+fn lambda(bytes: &[u8], out: &mut impl Write) -> Result<(), String> {
+    let input = std::str::from_utf8(bytes).map_err(|_| "lambda: standard input is no text".to_string())?;
+    let (answers, worst) = logarithm::check(input)?;
+    for answer in answers {
+        written(writeln!(out, "{answer}"))?;
+    }
+    if worst.lines > 0 {
+        let (lines, p, q) = (worst.lines, worst.p, worst.q);
+        written(writeln!(
+            out,
+            "lambda: {lines} lines held, the worst {:.1} from the true logarithm at {p} {q}",
+            worst.difference
+        ))?;
+    }
+    Ok(())
+}

@@ -1,0 +1,24 @@
+//! The mistakes that the trade makes, for the tests: a step made with one of them must be noticed.
+
+/// One of document 01's five mistakes.
+#[derive(Clone, Copy, PartialEq, Eq, Debug)]
+pub enum Mistake {
+    /// Cells updated within the sweep, so that a later face sees a new drawdown.
+    UpdatedInSweep,
+    /// The two sides of one face rounded separately.
+    SidesRoundedApart,
+    /// Flow rounded down below zero, not toward it.
+    RoundedDown,
+    /// Stability judged without the vertical faces.
+    NoVerticalStability,
+    /// The last column's cells counted as storage.
+    LastColumnStored,
+}
+
+pub const ALL: [Mistake; 5] = [
+    Mistake::UpdatedInSweep,
+    Mistake::SidesRoundedApart,
+    Mistake::RoundedDown,
+    Mistake::NoVerticalStability,
+    Mistake::LastColumnStored,
+];

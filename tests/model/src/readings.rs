@@ -1,0 +1,153 @@
+//! The readings of a record in whole numbers, each judged in the order 14, 12, 13, 7 (length), 8.
+
+use crate::grid::{slot, Place};
+use crate::record::Record;
+use crate::refusal::Refusal;
+use crate::step;
+
+/// Totals of a record, nl.
+#[derive(Clone, Copy, PartialEq, Eq, Debug)]
+pub struct Budget {
+    pub pumped: u64,
+    pub well_loss: i64,
+    pub cell_loss: i64,
+    pub inflow: i64,
+}
+
+/// Drawdown at a place, µm.
+pub fn drawdown(record: &Record, place: Place) -> Result<u64, Refusal> {
+    record.judge()?;
+    match place {
+        Place::Well => Ok(record.well_drawdown()),
+        Place::Cell { layer, column } if in_grid(record, layer, column) && column < record.columns => {
+            Ok(record.cell_drawdown(layer as usize, column as usize))
+        }
+        _ => Err(Refusal::Absent),
+    }
+}
+
+/// Pumped total, well's loss, all cells' loss and inflow total.
+pub fn budget(record: &Record) -> Result<Budget, Refusal> {
+    record.judge()?;
+    Ok(Budget {
+        pumped: record.pumped,
+        well_loss: record.well_loss,
+        cell_loss: record.all_cells_loss(),
+        inflow: record.inflow,
+    })
+}
+
+/// Length of a set's bytes: the well first, then the stored cells by layer and column.
+pub fn set_length(record: &Record) -> usize {
+    1 + record.layers as usize * (record.columns as usize - 1)
+}
+
+/// Storage loss of a set, nl; a byte that is not 0 means in.
+pub fn storage_loss(record: &Record, set: &[u8]) -> Result<i64, Refusal> {
+    record.judge()?;
+    if set.len() != set_length(record) {
+        return Err(Refusal::Buffer);
+    }
+    let cells = record.stored_cells().map(|(layer, column)| record.cell_loss[slot(layer, column)]);
+    let losses = std::iter::once(record.well_loss).chain(cells);
+    Ok(losses.zip(set).filter(|(_, &byte)| byte != 0).map(|(loss, _)| loss).sum())
+}
+
+/// Water from the first end of a face to the second, nl, for a step of a length (µs) not taken.
+pub fn flow(record: &Record, from: Place, to: Place, length: u64) -> Result<i64, Refusal> {
+    record.judge()?;
+    let face = face(record, from, to).ok_or(Refusal::Absent)?;
+    judge_step(record, length)?;
+    Ok(face_flow(record, face, from, to, length))
+}
+
+/// The length part of 7, then 8, for a step not taken.
+pub fn judge_step(record: &Record, length: u64) -> Result<(), Refusal> {
+    step::judge_length(length)?;
+    step::judge_stability(record, length, None)
+}
+
+/// Cells deeper than a threshold (µm), as layer × 100 + column at the front of a lent list; their number.
+pub fn deep_cells(record: &Record, threshold: u64, list: &mut [u64]) -> Result<usize, Refusal> {
+    record.judge()?;
+    let deeper = |&(layer, column): &(usize, usize)| record.cell_drawdown(layer, column) > threshold;
+    let codes: Vec<u64> =
+        record.stored_cells().filter(deeper).map(|(layer, column)| (layer * 100 + column) as u64).collect();
+    let front = list.get_mut(..codes.len()).ok_or(Refusal::Buffer)?;
+    front.copy_from_slice(&codes);
+    Ok(codes.len())
+}
+
+/// Whether two records have equal layer and column counts and equal drawdowns everywhere.
+pub fn same(one: &Record, other: &Record) -> Result<bool, Refusal> {
+    one.judge()?;
+    other.judge()?;
+    Ok(one.layers == other.layers
+        && one.columns == other.columns
+        && one.well_drawdown() == other.well_drawdown()
+        && one
+            .stored_cells()
+            .all(|(layer, column)| one.cell_drawdown(layer, column) == other.cell_drawdown(layer, column)))
+}
+
+/// A face of a record.
+#[derive(Clone, Copy)]
+pub struct Face {
+    /// C, unreduced.
+    conductance: u64,
+    /// Horizontal in layer 1.
+    water_table: bool,
+}
+
+/// Whether there is such a cell, the last column's among them.
+fn in_grid(record: &Record, layer: u64, column: u64) -> bool {
+    (1..=record.layers).contains(&layer) && (1..=record.columns).contains(&column)
+}
+
+/// The face that joins two ends, whichever is named first; the record is one that 14 lets pass.
+pub fn face(record: &Record, one: Place, other: Place) -> Option<Face> {
+    match (one, other) {
+        (Place::Well, Place::Cell { layer, column }) | (Place::Cell { layer, column }, Place::Well) => {
+            well_face(record, layer, column)
+        }
+        (Place::Cell { layer, column }, Place::Cell { layer: layer2, column: column2 }) => {
+            if !in_grid(record, layer, column) || !in_grid(record, layer2, column2) {
+                return None;
+            }
+            let (upper, inner) = (layer.min(layer2), column.min(column2));
+            let at = slot(upper as usize, inner as usize);
+            match (layer.abs_diff(layer2), column.abs_diff(column2)) {
+                (0, 1) => Some(Face { conductance: record.across_c[at], water_table: layer == 1 }),
+                (1, 0) if column < record.columns => Some(Face { conductance: record.down_c[at], water_table: false }),
+                _ => None,
+            }
+        }
+        (Place::Well, Place::Well) => None,
+    }
+}
+
+/// The well's face in a screened layer, which leads to column 1.
+fn well_face(record: &Record, layer: u64, column: u64) -> Option<Face> {
+    let screened = in_grid(record, layer, column) && record.screened[layer as usize - 1] == 1;
+    (screened && column == 1).then(|| Face { conductance: record.well_c[layer as usize - 1], water_table: false })
+}
+
+/// Water across a face, nl, when 14, 7 and 8 forbid nothing.
+pub fn face_flow(record: &Record, face: Face, from: Place, to: Place, length: u64) -> i64 {
+    let (d_from, d_to) = (end_drawdown(record, from), end_drawdown(record, to));
+    let conductance = if face.water_table {
+        step::water_table_conductance(face.conductance, record.thickness[0], d_from, d_to)
+    } else {
+        i128::from(face.conductance)
+    };
+    let flow = step::face_flow(conductance, d_from, d_to, length);
+    i64::try_from(flow).expect("the water of an allowed step fits a word")
+}
+
+/// D at an end of a face, µm.
+fn end_drawdown(record: &Record, end: Place) -> i128 {
+    i128::from(match end {
+        Place::Well => record.well_drawdown(),
+        Place::Cell { layer, column } => record.cell_drawdown(layer as usize, column as usize),
+    })
+}

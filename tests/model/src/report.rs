@@ -1,0 +1,276 @@
+//! What the command prints of a record: the start's numbers, and every reading after each entry.
+
+use crate::checksum::{byte_checksum, record_checksum};
+use crate::grid::{cell, slot, Place};
+use crate::head_loss;
+use crate::listing;
+use crate::readings;
+use crate::record::{self, Record};
+use crate::refusal::Refusal;
+use crate::text;
+use std::fmt::Display;
+use std::io::{self, Write};
+
+/// Numbers parted by one space, each after a space.
+fn row<T: Display>(numbers: impl IntoIterator<Item = T>) -> String {
+    numbers.into_iter().map(|number| format!(" {number}")).collect()
+}
+
+/// A value, or `refused` and the number.
+fn value<T: Display>(answer: Result<T, Refusal>) -> String {
+    match answer {
+        Ok(value) => value.to_string(),
+        Err(refusal) => format!("refused {refusal}"),
+    }
+}
+
+/// The outcome of start in one line: `scenario NUMBER`, or `accepted LAYERS COLUMNS CHECKSUM`.
+pub fn write_brief(text: &[u8], out: &mut impl Write) -> io::Result<()> {
+    let (outcome, record) = record::start(text);
+    match outcome {
+        Err(refusal) => writeln!(out, "scenario {refusal}"),
+        Ok(()) => writeln!(out, "accepted {} {} {}", record.layers, record.columns, record_checksum(&record)),
+    }
+}
+
+/// The outcome of start, and of an accepted text each number, each C and each S.
+pub fn write_start(text: &[u8], out: &mut impl Write) -> io::Result<()> {
+    write_brief(text, out)?;
+    let (outcome, record) = record::start(text);
+    if outcome.is_ok() {
+        write_numbers(&record, out)?;
+        write_coefficients(&record, out)?;
+    }
+    Ok(())
+}
+
+/// The numbers of the first four sections.
+fn write_numbers(record: &Record, out: &mut impl Write) -> io::Result<()> {
+    for (above, layer) in record.site().layers.iter().enumerate() {
+        let numbers = [layer.thickness, layer.screened, layer.horizontal, layer.vertical, layer.storage];
+        writeln!(out, "layer {}{}", above + 1, row(numbers))?;
+    }
+    writeln!(out, "radii{}", row(record.site().radii))?;
+    let well = [record.well_radius, record.water_area, record.intake_depth, record.friction];
+    writeln!(out, "well{}", row(well))?;
+    writeln!(out, "screen {}{}", record.screen_loss_count, row(record.site().screen_losses))
+}
+
+/// Each C and each S.
+fn write_coefficients(record: &Record, out: &mut impl Write) -> io::Result<()> {
+    let layers = record.layers as usize;
+    let columns = 1..record.columns as usize;
+    let stored = |slots: &[u64], layer| row(columns.clone().map(|column| slots[slot(layer, column)]));
+    for layer in screened_layers(record) {
+        writeln!(out, "wellC {layer} {}", record.well_c[layer - 1])?;
+    }
+    for layer in 1..=layers {
+        writeln!(out, "acrossC {layer}{}", stored(&record.across_c, layer))?;
+    }
+    for layer in 1..layers {
+        writeln!(out, "downC {layer}{}", stored(&record.down_c, layer))?;
+    }
+    writeln!(out, "wellS {}", record.well_s)?;
+    for layer in 1..=layers {
+        writeln!(out, "cellS {layer}{}", stored(&record.cell_s, layer))?;
+    }
+    Ok(())
+}
+
+/// A pumping entry of a text: `entry RATE LENGTH REPEATS`, or `refused NUMBER`.
+pub fn write_entry(text: &[u8], number: u64, out: &mut impl Write) -> io::Result<()> {
+    match text::pumping_entry(text, number) {
+        Ok(entry) => writeln!(out, "entry {} {} {}", entry.rate, entry.length, entry.repeats),
+        Err(refusal) => writeln!(out, "refused {refusal}"),
+    }
+}
+
+/// Runs the entries and writes every reading at the start (as entry 0, for a length of 1 µs) and after each entry.
+pub fn write_readings<W: Write>(text: &[u8], out: &mut W) -> io::Result<()> {
+    let write = |heading: &str, body: &[u8], out: &mut W| {
+        writeln!(out, "{heading}")?;
+        out.write_all(body)
+    };
+    for_each_state(text, out, write)
+}
+
+/// The same states in one line each: the heading and the checksum of the bytes that `write_readings` prints below it.
+pub fn write_sums(text: &[u8], out: &mut impl Write) -> io::Result<()> {
+    for_each_state(text, out, |heading, body, out| writeln!(out, "{heading} {}", byte_checksum(body)))
+}
+
+/// Runs the entries and hands over the heading of each state and the lines of its readings.
+fn for_each_state<W: Write>(
+    text: &[u8],
+    out: &mut W,
+    write: impl Fn(&str, &[u8], &mut W) -> io::Result<()>,
+) -> io::Result<()> {
+    let (outcome, start) = record::start(text);
+    if let Err(refusal) = outcome {
+        return writeln!(out, "scenario {refusal}");
+    }
+    let mut body = Vec::new();
+    write_refused_readings(&start, &mut body)?;
+    write_state(&start, &start, &start, 1, &mut body)?;
+    write("after 0 taken", &body, out)?;
+    let mut record = start.clone();
+    let pumping = text::read(text).expect("start has accepted this text").pumping;
+    for (above, &entry) in pumping.iter().enumerate() {
+        let before = record.clone();
+        let outcome = listing::run_entry(&mut record, entry);
+        body.clear();
+        write_state(&record, &before, &start, entry.length, &mut body)?;
+        write(&format!("after {} {}", above + 1, value(outcome.map(|()| "taken"))), &body, out)?;
+    }
+    Ok(())
+}
+
+/// Every reading of a record; flows and head losses for a length (µs) not taken.
+fn write_state(record: &Record, before: &Record, start: &Record, length: u64, out: &mut impl Write) -> io::Result<()> {
+    writeln!(out, "time {}", record.time)?;
+    let budget = readings::budget(record).expect("a run from start keeps an allowed record");
+    writeln!(out, "budget {} {} {} {}", budget.pumped, budget.well_loss, budget.cell_loss, budget.inflow)?;
+    writeln!(out, "checksum {}", record_checksum(record))?;
+    write_drawdowns(record, out)?;
+    write_sets(record, out)?;
+    write_deep_cells(record, out)?;
+    for other in [record, before, start] {
+        let (one_way, other_way) = (readings::same(record, other), readings::same(other, record));
+        writeln!(out, "same {} {}", value(one_way.map(u8::from)), value(other_way.map(u8::from)))?;
+    }
+    write_flows(record, length, out)?;
+    for length in [0, 1, length, 1_000_000_000, 1_000_000_001] {
+        let layer = screened_layers(record)[0];
+        let flow = readings::flow(record, cell(layer, 1), Place::Well, length);
+        writeln!(out, "length {length} {}", value(flow))?;
+    }
+    for layer in screened_layers(record) {
+        writeln!(out, "head {length} {layer} {}", head_figures(record, layer as u64, length))?;
+    }
+    Ok(())
+}
+
+/// Head loss of a layer: inflow, screen loss and pipe loss, each as its 64 bits in decimal.
+fn head_figures(record: &Record, layer: u64, length: u64) -> String {
+    let bits = |loss: head_loss::HeadLoss| {
+        format!("{} {} {}", loss.inflow.to_bits(), loss.screen.to_bits(), loss.pipe.to_bits())
+    };
+    value(head_loss::head_loss(record, layer, length).map(bits))
+}
+
+/// `well D`, then `layer LAYER D D ..` for the stored columns.
+fn write_drawdowns(record: &Record, out: &mut impl Write) -> io::Result<()> {
+    writeln!(out, "well {}", value(readings::drawdown(record, Place::Well)))?;
+    for layer in 1..=record.layers as usize {
+        let columns = 1..record.columns as usize;
+        let drawdowns = columns.map(|column| value(readings::drawdown(record, cell(layer, column))));
+        writeln!(out, "layer {layer}{}", row(drawdowns))?;
+    }
+    Ok(())
+}
+
+/// Byte `index` of the sets that are read: 0 empty, 1 all, 2 the well, 3 the cells, 4 and 5 mixed ones.
+pub fn set_byte(set: usize, index: usize) -> u8 {
+    let byte = match set {
+        0 => 0,
+        1 => 1,
+        2 => usize::from(index == 0) * 255,
+        3 => usize::from(index > 0) * 128,
+        4 => index % 3,
+        _ => (index * index + index / 7) % 5,
+    };
+    byte as u8
+}
+
+/// `set NUMBER LOSS` for sets of the right length; sets of other lengths with their refusal.
+fn write_sets(record: &Record, out: &mut impl Write) -> io::Result<()> {
+    let length = readings::set_length(record);
+    for set in 0..6 {
+        let bytes: Vec<u8> = (0..length).map(|index| set_byte(set, index)).collect();
+        writeln!(out, "set {set} {}", value(readings::storage_loss(record, &bytes)))?;
+    }
+    for other in [0, length - 1, length + 1] {
+        writeln!(out, "set length {other} {}", value(readings::storage_loss(record, &vec![1; other])))?;
+    }
+    Ok(())
+}
+
+/// `deep THRESHOLD COUNT CODE ..` with the codes rising, then what a list one too short gives.
+fn write_deep_cells(record: &Record, out: &mut impl Write) -> io::Result<()> {
+    let depths = record.stored_cells().map(|(layer, column)| record.cell_drawdown(layer, column));
+    let deepest = depths.max().expect("there is a stored cell");
+    let thresholds = [0, deepest / 4, deepest / 2, deepest.saturating_sub(1), deepest, 1_000_000_000, u64::MAX];
+    for threshold in thresholds {
+        let mut list = vec![0; readings::set_length(record)];
+        let count = readings::deep_cells(record, threshold, &mut list).expect("the list holds every cell");
+        list.truncate(count);
+        list.sort_unstable();
+        writeln!(out, "deep {threshold} {count}{}", row(&list))?;
+        if count > 0 {
+            let short = readings::deep_cells(record, threshold, &mut list[1..]);
+            writeln!(out, "deep short {threshold} {}", value(short))?;
+        }
+    }
+    Ok(())
+}
+
+/// Flow of every face for a length, outward or downward; backward must give the same with the other sign.
+fn write_flows(record: &Record, length: u64, out: &mut impl Write) -> io::Result<()> {
+    let (layers, columns) = (record.layers as usize, record.columns as usize);
+    let both_ways = |from, to| {
+        let forward = readings::flow(record, from, to, length);
+        assert_eq!(readings::flow(record, to, from, length), forward.map(|flow| -flow));
+        forward
+    };
+    let faces = |pairs: Vec<(Place, Place)>| match pairs.iter().map(|&(from, to)| both_ways(from, to)).collect() {
+        Ok::<Vec<i64>, _>(flows) => row(flows),
+        Err(refusal) => format!(" refused {refusal}"),
+    };
+    for layer in screened_layers(record) {
+        writeln!(out, "inward {length} {layer}{}", faces(vec![(cell(layer, 1), Place::Well)]))?;
+    }
+    for layer in 1..=layers {
+        let pairs = (1..columns).map(|column| (cell(layer, column), cell(layer, column + 1))).collect();
+        writeln!(out, "across {length} {layer}{}", faces(pairs))?;
+    }
+    for layer in 1..layers {
+        let pairs = (1..columns).map(|column| (cell(layer, column), cell(layer + 1, column))).collect();
+        writeln!(out, "down {length} {layer}{}", faces(pairs))?;
+    }
+    Ok(())
+}
+
+/// Readings that 12 refuses, before any length is judged.
+fn write_refused_readings(record: &Record, out: &mut impl Write) -> io::Result<()> {
+    let (layers, columns) = (record.layers, record.columns);
+    let at = |layer, column| Place::Cell { layer, column };
+    for place in
+        [at(0, 1), at(1, 0), at(1, columns), at(layers, columns + 1), at(layers + 1, 1), at(u64::MAX, u64::MAX)]
+    {
+        writeln!(out, "no place {}", value(readings::drawdown(record, place)))?;
+    }
+    let pairs = [
+        (Place::Well, Place::Well),
+        (Place::Well, at(1, 1)),
+        (at(layers, 2), Place::Well),
+        (at(1, 1), at(1, 1)),
+        (at(1, 1), at(2, 2)),
+        (at(1, columns), at(2, columns)),
+        (at(1, columns), at(1, columns + 1)),
+        (at(layers, 1), at(layers + 1, 1)),
+        (at(0, 1), at(1, 1)),
+        (at(1, u64::MAX), at(1, 0)),
+    ];
+    for (from, to) in pairs {
+        writeln!(out, "no face {}", value(readings::flow(record, from, to, 0)))?;
+    }
+    for layer in [0, 1, layers + 1, u64::MAX] {
+        writeln!(out, "no screen {}", head_figures(record, layer, 0))?;
+    }
+    Ok(())
+}
+
+/// The screened layers of a record, topmost first.
+fn screened_layers(record: &Record) -> Vec<usize> {
+    record.site().screened_layers()
+}

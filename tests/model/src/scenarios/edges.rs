@@ -1,0 +1,391 @@
+//! The catalogue of edges: every limit of document 01 that a text can reach,
+//! at its last accepted and first refused value.
+
+use super::damage::line_replaced;
+use super::draft::{text_of, Draft};
+use super::draft::{FRICTION, HORIZONTAL, INTAKE, RADIUS, REPEATS, SCREENED, STORAGE, THICKNESS, VERTICAL, WATER_AREA};
+use super::Case;
+use crate::geometry;
+use crate::limits;
+
+/// All edges, in a fixed order.
+pub fn catalogue() -> Vec<Case> {
+    let mut edges = Edges(Vec::new());
+    edges.bore_k();
+    edges.lines();
+    edges.text_length();
+    edges.counts();
+    edges.layer_numbers();
+    edges.other_numbers();
+    edges.radii();
+    edges.screen();
+    edges.conductances();
+    edges.storages();
+    edges.steps();
+    edges.0
+}
+
+/// The bore K of document 01.
+fn bore_k() -> Draft {
+    Draft {
+        layers: vec![[10_000, 0, 100_000, 10_000, 200_000], [2000, 1, 100_000, 10_000, 1_000_000]],
+        radii: vec![500, 1300],
+        well: vec![100, 30_000, 9999, 50_000],
+        screen_losses: vec![],
+        pumping: vec![[1000, 500_000, 2], [1000, 500_000, 1]],
+    }
+}
+
+/// A grid whose numbers can each go to their limits without meeting another rule.
+fn plain(well_radius: u64) -> Draft {
+    Draft {
+        layers: vec![
+            [20_000, 0, 100_000, 10_000, 200_000],
+            [5000, 0, 20_000, 3000, 20_000],
+            [2000, 1, 100_000, 10_000, 1000],
+        ],
+        radii: vec![3 * well_radius, 7 * well_radius, 15 * well_radius],
+        well: vec![well_radius, 30_000, 500, 20_000],
+        screen_losses: vec![2000, 300],
+        pumping: vec![[9000, 100, 3], [0, 90, 2]],
+    }
+}
+
+/// The plain grid with columns out to a radius near the limit.
+fn far_reaching() -> Draft {
+    let mut draft = plain(5000);
+    draft.radii.extend([155_000, 315_000, 635_000, 1_275_000, 2_000_000]);
+    draft
+}
+
+/// A copy of a draft after an edit.
+fn edited(draft: &Draft, edit: &dyn Fn(&mut Draft)) -> Draft {
+    let mut copy = draft.clone();
+    edit(&mut copy);
+    copy
+}
+
+struct Edges(Vec<Case>);
+
+impl Edges {
+    fn add(&mut self, name: &str, text: Vec<u8>, start: u64) {
+        self.0.push(Case { name: name.to_string(), text, start: Some(start) });
+    }
+
+    /// An edited copy of a draft.
+    fn edit(&mut self, name: &str, draft: &Draft, start: u64, edit: impl Fn(&mut Draft)) {
+        self.add(name, edited(draft, &edit).text(), start);
+    }
+
+    /// A number at values that start accepts and at values that it refuses.
+    fn number(&mut self, name: &str, draft: &Draft, accepted: &[u64], refused: &[u64], edit: impl Fn(&mut Draft, u64)) {
+        for &value in accepted {
+            self.edit(&format!("{name}-{value}"), draft, 0, |draft| edit(draft, value));
+        }
+        for &value in refused {
+            self.edit(&format!("{name}-{value}"), draft, 3, |draft| edit(draft, value));
+        }
+    }
+
+    /// The bore K and its unmarked cases.
+    fn bore_k(&mut self) {
+        let k = bore_k();
+        self.edit("k", &k, 0, |_| ());
+        self.edit("k-radius-1301", &k, 4, |draft| draft.radii[1] = 1301);
+        self.edit("k-intake-10000", &k, 5, |draft| draft.well[INTAKE] = 10_000);
+        self.edit("k-intake-17", &k, 0, |draft| draft.well[INTAKE] = 17);
+        self.edit("k-intake-16", &k, 0, |draft| draft.well[INTAKE] = 16);
+        self.edit("k-rate", &k, 0, |draft| draft.pumping[0][0] = limits::RATE + 1);
+        self.edit("k-length-658805", &k, 0, |draft| draft.pumping[0] = [1000, 658_805, 1]);
+        self.edit("k-length-658806", &k, 0, |draft| draft.pumping[0] = [1000, 658_806, 1]);
+        self.add("empty", Vec::new(), 1);
+    }
+
+    /// Damaged lines, at the first, a middle and the last line.
+    fn lines(&mut self) {
+        let numbers = bore_k().numbers();
+        let lines: [(&str, &[u8]); 15] = [
+            ("blank", b""),
+            ("space-before", b" 2"),
+            ("space-after", b"2 "),
+            ("plus", b"+2"),
+            ("minus", b"-2"),
+            ("point", b"2.0"),
+            ("letter", b"2e1"),
+            ("tab", b"\t2"),
+            ("carriage-return", b"2\r"),
+            ("zero-byte", b"2\0"),
+            ("high-byte", b"\xB2"),
+            ("two-zeros", b"00"),
+            ("leading-zero", b"02"),
+            ("19-digits", b"1000000000000000000"),
+            ("40-digits", b"0000000000000000000000000000000000000002"),
+        ];
+        for (turn, (name, line)) in lines.into_iter().enumerate() {
+            let index = [0, 12, numbers.len() - 1][turn % 3];
+            self.add(&format!("line-{name}"), line_replaced(&numbers, index, line), 1);
+        }
+        self.add("line-18-digits", line_replaced(&numbers, 22, b"999999999999999999"), 0);
+        let text = text_of(&numbers);
+        self.add("line-without-feed", text[..text.len() - 1].to_vec(), 1);
+        self.add("line-feed-more", [text.as_slice(), b"\n"].concat(), 1);
+        self.add("line-feed-only", b"\n".to_vec(), 1);
+        self.add("zero-only", b"0\n".to_vec(), 2);
+        self.add("left-over", [text.as_slice(), b"0\n"].concat(), 1);
+        for length in [0, 1, 5, 11, 12, 14, 15, 18, 19, 20, 21, 25, 26] {
+            self.add(&format!("numbers-{length}"), text_of(&numbers[..length]), 1);
+        }
+    }
+
+    /// A text of 65,536 bytes is still judged by its counts; one of 65,537 is too long.
+    fn text_length(&mut self) {
+        let mut text = b"21\n".to_vec();
+        while text.len() < limits::TEXT_BYTES - 3 {
+            text.extend(b"1\n");
+        }
+        text.extend(b"11\n");
+        self.add("bytes-65536", text.clone(), 2);
+        text.insert(0, b'1');
+        self.add("bytes-65537", text, 1);
+        let mut text = bore_k().text();
+        while text.len() + 2 <= limits::TEXT_BYTES {
+            text.extend(b"1\n");
+        }
+        self.add("bytes-k-left-over", text, 1);
+    }
+
+    /// Counts at their limits.
+    fn counts(&mut self) {
+        let draft = plain(100);
+        for (count, start) in [(2, 0), (20, 0), (1, 2), (21, 2)] {
+            self.edit(&format!("layers-{count}"), &draft, start, |draft| {
+                let screened = draft.layers[2];
+                draft.layers.truncate(count.min(2));
+                draft.layers.resize(count, screened);
+                draft.layers[count - 1][SCREENED] = u64::from(count > 1);
+            });
+        }
+        self.edit("layers-0", &draft, 2, |draft| draft.layers.clear());
+        for (count, start) in [(2, 0), (50, 0), (1, 2), (51, 2)] {
+            self.edit(&format!("columns-{count}"), &draft, start, |draft| {
+                draft.radii = (1..=count).map(|column| 100 + 50 * column).collect();
+            });
+        }
+        self.edit("columns-0", &draft, 2, |draft| draft.radii.clear());
+        self.edit("well-3", &draft, 2, |draft| draft.well.truncate(3));
+        self.edit("well-5", &draft, 2, |draft| draft.well.push(1));
+        for (count, start) in [(0, 0), (1, 0), (2, 0), (3, 2)] {
+            self.edit(&format!("coefficients-{count}"), &draft, start, |draft| draft.screen_losses = vec![700; count]);
+        }
+        for (count, start) in [(0, 0), (1, 0), (500, 0), (501, 2)] {
+            self.edit(&format!("entries-{count}"), &draft, start, |draft| draft.pumping = vec![[3000, 50, 1]; count]);
+        }
+        self.edit("count-before-number", &draft, 2, |draft| {
+            draft.layers[0][THICKNESS] = 0;
+            draft.pumping = vec![[1, 1, 1]; 501];
+        });
+    }
+
+    /// Numbers of layers at their limits.
+    fn layer_numbers(&mut self) {
+        let draft = plain(100);
+        for (name, layer) in [("top", 0), ("middle", 1), ("screened", 2)] {
+            let at = |field: usize| move |draft: &mut Draft, value| draft.layers[layer][field] = value;
+            self.number(&format!("{name}-thickness"), &draft, &[1, 1_000_000], &[0, 1_000_001], at(THICKNESS));
+            self.number(&format!("{name}-kh"), &draft, &[0, 100_000_000], &[100_000_001], at(HORIZONTAL));
+            self.number(&format!("{name}-kv"), &draft, &[0, 100_000_000], &[100_000_001], at(VERTICAL));
+            self.number(&format!("{name}-is-screened"), &draft, &[], &[2], at(SCREENED));
+        }
+        self.number("yield", &draft, &[1, 100_000_000], &[0, 100_000_001], |d, v| d.layers[0][STORAGE] = v);
+        self.number("storage", &draft, &[1, 1_000_000], &[0, 1_000_001], |d, v| d.layers[2][STORAGE] = v);
+        self.number("middle-is-screened", &draft, &[0, 1], &[], |d, v| d.layers[1][SCREENED] = v);
+    }
+
+    /// Numbers of the other sections at their limits.
+    fn other_numbers(&mut self) {
+        let draft = plain(100);
+        for (radius, start) in [(10, 0), (5000, 0), (9, 3), (5001, 3)] {
+            self.edit(&format!("well-radius-{radius}"), &plain(radius), start, |_| ());
+        }
+        self.number("last-radius", &far_reaching(), &[2_000_000], &[2_000_001], |d, v| d.radii[7] = v);
+        self.number("water-area", &draft, &[1, 1_000_000_000], &[0, 1_000_000_001], |d, v| d.well[WATER_AREA] = v);
+        let mut thick = draft.clone();
+        thick.layers[0][THICKNESS] = 1_000_000;
+        self.number("intake", &thick, &[1, 1_000_000], &[0, 1_000_001], |d, v| d.well[INTAKE] = v);
+        self.number("friction", &draft, &[0, 1_000_000], &[1_000_001], |d, v| d.well[FRICTION] = v);
+        for index in 0..2 {
+            let most = *limits::SCREEN_LOSS.end();
+            let name = format!("coefficient-{}", index + 1);
+            self.number(&name, &draft, &[0, most], &[most + 1], |d, v| d.screen_losses[index] = v);
+        }
+        // A length of 0 ends each entry at once.
+        let mut repeated = draft.clone();
+        repeated.pumping = vec![[1, 0, 1], [1, 0, 1]];
+        self.number("repeats", &repeated, &[1, 1_000_000], &[0, 1_000_001], |d, v| d.pumping[1][REPEATS] = v);
+        self.edit("rate-and-length-free", &draft, 0, |draft| {
+            draft.pumping = vec![[999_999_999_999_999_999, 999_999_999_999_999_999, 1], [0, 0, 1]];
+        });
+        self.edit("number-before-radii", &draft, 3, |draft| {
+            draft.radii[0] = 1;
+            draft.pumping[1][REPEATS] = 0;
+        });
+    }
+
+    /// Rule 4 at its limits, at the well, in the middle and at the last column.
+    fn radii(&mut self) {
+        let draft = plain(100);
+        let mut one = |name: &str, start, radii: [u64; 3]| self.edit(name, &draft, start, |d| d.radii = radii.to_vec());
+        one("first-radius-over-well", 0, [101, 300, 700]);
+        one("first-radius-as-well", 4, [100, 300, 700]);
+        one("first-radius-under-well", 4, [99, 300, 700]);
+        one("first-radius-0", 4, [0, 300, 700]);
+        one("middle-radius-rises", 0, [300, 301, 700]);
+        one("middle-radius-equal", 4, [300, 300, 700]);
+        one("last-radius-rises", 0, [300, 700, 701]);
+        one("last-radius-equal", 4, [300, 700, 700]);
+        one("last-radius-falls", 4, [300, 700, 699]);
+        one("first-widest", 0, [500, 700, 1500]);
+        one("first-too-wide", 4, [501, 700, 1500]);
+        one("middle-widest", 0, [300, 900, 1500]);
+        one("middle-too-wide", 4, [300, 901, 1500]);
+        one("last-widest", 0, [300, 700, 2300]);
+        one("last-too-wide", 4, [300, 700, 2301]);
+        self.edit("radii-before-screen", &draft, 4, |draft| {
+            draft.radii[2] = 1;
+            draft.layers[2][SCREENED] = 0;
+        });
+    }
+
+    /// Rule 5 at its limits.
+    fn screen(&mut self) {
+        let draft = plain(100);
+        self.edit("screen-none", &draft, 5, |draft| draft.layers[2][SCREENED] = 0);
+        self.edit("screen-in-layer-1", &draft, 5, |draft| draft.layers[0][SCREENED] = 1);
+        for (name, second, intake, start) in
+            [("below-2", 1, 19_999, 0), ("at-2", 1, 20_000, 5), ("below-3", 0, 24_999, 0), ("at-3", 0, 25_000, 5)]
+        {
+            self.edit(&format!("intake-{name}"), &draft, start, |draft| {
+                draft.layers[1][SCREENED] = second;
+                draft.well[INTAKE] = intake;
+            });
+        }
+        self.edit("intake-thin-top", &draft, 5, |draft| {
+            draft.layers[0][THICKNESS] = 1;
+            draft.layers[1][SCREENED] = 1;
+            draft.well[INTAKE] = 1;
+        });
+        self.edit("screen-before-storage", &draft, 5, |draft| {
+            draft.layers[2] = [1, 0, 0, 0, 1];
+            draft.radii = vec![101, 102, 103];
+        });
+    }
+
+    /// C at 10^15: the largest conductivity that start accepts, and the next.
+    fn conductances(&mut self) {
+        let mut draft = plain(5000);
+        draft.layers[0][THICKNESS] = 1_000_000;
+        draft.layers[2][THICKNESS] = 1_000_000;
+        let narrow = [("well", 2, [5001, 12_000, 20_000]), ("middle", 0, [12_000, 12_001, 20_000])];
+        let last = [("last", 0, [12_000, 20_000, 20_001]), ("last-screened", 2, [12_000, 20_000, 20_001])];
+        for (name, layer, radii) in narrow.into_iter().chain(last) {
+            let mut edited = draft.clone();
+            edited.radii = radii.to_vec();
+            self.largest(&format!("c-{name}"), &edited, limits::CONDUCTIVITY.end(), |draft, value| {
+                draft.layers[layer][HORIZONTAL] = value;
+            });
+        }
+        let mut wide = far_reaching();
+        wide.layers[0][VERTICAL] = 0;
+        wide.layers[1][THICKNESS] = 1;
+        wide.layers[2][THICKNESS] = 1;
+        wide.layers[2][VERTICAL] = 100_000_000;
+        self.largest("c-down", &wide, limits::CONDUCTIVITY.end(), |draft, value| draft.layers[1][VERTICAL] = value);
+        self.edit("c-down-zero", &wide, 0, |draft| draft.layers[1][VERTICAL] = 0);
+        // A layer without screen has no C at the well.
+        self.edit("c-no-well-face", &plain(5000), 0, |draft| {
+            draft.radii = vec![5001, 12_000, 20_000];
+            draft.layers[1] = [1000, 0, 100_000_000, 0, 1000];
+        });
+    }
+
+    /// S from 1 to 10^18 at the stored cells, and free in the last column.
+    fn storages(&mut self) {
+        let wide = far_reaching();
+        self.largest("s-yield", &wide, limits::SPECIFIC_YIELD.end(), |draft, value| draft.layers[0][STORAGE] = value);
+        // In the last column it would be 1.5 × 10^18.
+        self.edit("s-last-column-large", &wide, 0, |_| ());
+        let mut thick = wide.clone();
+        thick.layers[2][THICKNESS] = 1_000_000;
+        self.largest("s-storage", &thick, limits::SPECIFIC_STORAGE.end(), |d, value| d.layers[2][STORAGE] = value);
+        let mut small = plain(10);
+        small.radii = vec![11, 12, 13];
+        small.layers[2][THICKNESS] = 1;
+        let least = 1_000_000u128.div_ceil(geometry::area(10, 11)) as u64;
+        self.edit("s-1", &small, 0, |draft| draft.layers[2][STORAGE] = least);
+        self.edit("s-0", &small, 6, |draft| draft.layers[2][STORAGE] = least - 1);
+        // In the last column it would be 0.
+        self.edit("s-last-column-small", &plain(10), 0, |draft| {
+            draft.radii[2] = 71;
+            draft.layers[2][THICKNESS] = 1;
+        });
+    }
+
+    /// The largest value of a number that 6 lets pass, found by halving, and the next.
+    fn largest(&mut self, name: &str, draft: &Draft, most: &u64, edit: impl Fn(&mut Draft, u64)) {
+        let accepted = |value| edited(draft, &|draft| edit(draft, value)).start().is_some();
+        let (mut under, mut over) = (1, *most);
+        assert!(accepted(under) && !accepted(over), "{name} has its limit between 1 and {most}");
+        while over - under > 1 {
+            let middle = (under + over) / 2;
+            if accepted(middle) {
+                under = middle;
+            } else {
+                over = middle;
+            }
+        }
+        self.edit(&format!("{name}-last"), draft, 0, |draft| edit(draft, under));
+        self.edit(&format!("{name}-over"), draft, 6, |draft| edit(draft, over));
+    }
+
+    /// Rates, lengths and drawdowns at the limits of 7, 8 and 10.
+    fn steps(&mut self) {
+        let mut still = plain(100);
+        for layer in &mut still.layers {
+            layer[HORIZONTAL] = 0;
+            layer[VERTICAL] = 0;
+        }
+        still.well[WATER_AREA] = 1_000_000_000;
+        self.edit("step-rates", &still, 0, |draft| {
+            draft.pumping = vec![[10_000_000, 1, 2], [10_000_001, 1, 2], [0, 1, 2]];
+        });
+        self.edit("step-lengths", &still, 0, |draft| {
+            draft.pumping = vec![[1, 1_000_000_000, 2], [1, 1_000_000_001, 2], [1, 0, 1], [1, 1, 1]];
+        });
+        // With W = 1 a volume of 1 nl is 1 µm of drawdown.
+        self.edit("step-to-intake", &still, 0, |draft| {
+            draft.well[WATER_AREA] = 1;
+            draft.pumping = vec![[500, 1000, 1], [1, 1, 1], [0, 1, 1]];
+        });
+        self.edit("step-past-intake", &still, 0, |draft| {
+            draft.well[WATER_AREA] = 1;
+            draft.pumping = vec![[166_667, 3, 1], [499_999, 1, 1], [1, 1, 2]];
+        });
+        for (name, draft) in [("plain", plain(100)), ("far", far_reaching()), ("thin", thin())] {
+            let longest = draft.longest_step();
+            self.edit(&format!("step-longest-{name}"), &draft, 0, |draft| {
+                draft.pumping = vec![[1, longest, 3], [1, longest + 1, 3], [0, longest, 3]];
+            });
+        }
+    }
+}
+
+/// Twenty layers of 1 mm, all but the top two screened.
+fn thin() -> Draft {
+    let mut draft = plain(50);
+    draft.layers = vec![[1, 1, 40_000, 500, 50_000]; 20];
+    draft.layers[0] = [1, 0, 40_000, 500, 50_000];
+    draft.layers[1][SCREENED] = 0;
+    draft.well[INTAKE] = 1;
+    draft.well[RADIUS] = 50;
+    draft
+}

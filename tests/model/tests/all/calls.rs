@@ -1,0 +1,283 @@
+//! Random lists of calls, and what the ledger says that each must answer.
+
+use crate::head_losses;
+use reference_model::grid::{cell, Place};
+use reference_model::head_loss::{head_loss, HeadLoss};
+use reference_model::ledger::Ledger;
+use reference_model::limits;
+use reference_model::mistake::Mistake;
+use reference_model::random::Random;
+use reference_model::readings;
+use reference_model::record::Record;
+use reference_model::refusal::Refusal;
+use reference_model::site::Site;
+use reference_model::step::step_with;
+use reference_model::text::Scenario;
+
+use crate::bore_k::equal;
+
+/// A call on the list's record, with its arguments beside the record.
+pub enum Call {
+    Step { rate: u64, length: u64 },
+    Drawdown(Place),
+    Budget,
+    StorageLoss(Vec<u8>),
+    Flow { from: Place, to: Place, length: u64 },
+    DeepCells { threshold: u64, list: Vec<u64> },
+    Same { other: Box<Record>, other_first: bool },
+    HeadLoss { layer: u64, length: u64 },
+}
+
+/// Draws calls that fit a scenario, and some that do not.
+pub struct Drawer<'a> {
+    pub random: Random,
+    pub scenario: &'a Scenario,
+    /// The longest step that 8 allows, µs.
+    pub longest: u64,
+}
+
+impl Drawer<'_> {
+    pub fn call(&mut self, record: &Record, start: &Record) -> Call {
+        match self.random.between(0, 15) {
+            0 => Call::Drawdown(self.place()),
+            1 => Call::Budget,
+            2 => Call::StorageLoss(self.set()),
+            3 => {
+                let (from, to) = self.ends();
+                Call::Flow { from, to, length: self.length() }
+            }
+            4 => Call::DeepCells { threshold: self.threshold(record), list: self.list() },
+            5 => Call::Same { other: Box::new(self.other(record, start)), other_first: self.random.once_in(2) },
+            6 => {
+                let layers = self.scenario.site.layers.len() as u64;
+                let layer = self.random.between(0, layers + 1);
+                Call::HeadLoss { layer, length: self.length() }
+            }
+            _ => Call::Step { rate: self.rate(), length: self.length() },
+        }
+    }
+
+    fn rate(&mut self) -> u64 {
+        let listed: Vec<u64> = self.scenario.pumping.iter().map(|entry| entry.rate).chain([0]).collect();
+        let rate = self.random.one_of(&listed);
+        let any = self.random.word();
+        match self.random.between(0, 19) {
+            0 => any,
+            1 => limits::RATE + 1,
+            2..=4 => 0,
+            _ => rate,
+        }
+    }
+
+    fn length(&mut self) -> u64 {
+        let longest = self.longest;
+        let shorter = self.random.between(1, longest.max(1));
+        let any = self.random.word();
+        match self.random.between(0, 19) {
+            0 => longest + 1,
+            1 => self.random.one_of(&[0, 1_000_000_000, 1_000_000_001, any]),
+            2..=6 => shorter,
+            _ => longest,
+        }
+    }
+
+    fn place(&mut self) -> Place {
+        if self.random.once_in(6) {
+            return Place::Well;
+        }
+        let layers = self.scenario.site.layers.len() as u64;
+        let columns = self.scenario.site.columns() as u64;
+        let any = self.random.word();
+        let layer = self.random.between(0, layers + 1);
+        let column = self.random.between(0, columns + 1);
+        Place::Cell { layer: if self.random.once_in(30) { any } else { layer }, column }
+    }
+
+    /// Two ends, most of them neighbours.
+    fn ends(&mut self) -> (Place, Place) {
+        let from = self.place();
+        if let (Place::Cell { layer, column }, false) = (from, self.random.once_in(8)) {
+            let to = match self.random.between(0, 4) {
+                0 => Place::Cell { layer: layer.wrapping_add(1), column },
+                1 => Place::Cell { layer: layer.wrapping_sub(1), column },
+                2 => Place::Cell { layer, column: column.wrapping_add(1) },
+                3 => Place::Cell { layer, column: column.wrapping_sub(1) },
+                _ => Place::Well,
+            };
+            return if self.random.once_in(2) { (from, to) } else { (to, from) };
+        }
+        (from, self.place())
+    }
+
+    fn places(&self) -> usize {
+        1 + self.scenario.site.layers.len() * (self.scenario.site.columns() - 1)
+    }
+
+    pub fn set(&mut self) -> Vec<u8> {
+        let length = match self.random.between(0, 9) {
+            0 => self.random.between(0, 1200) as usize,
+            1 => self.places() - 1,
+            2 => self.places() + 1,
+            _ => self.places(),
+        };
+        self.bytes(length)
+    }
+
+    pub fn bytes(&mut self, length: usize) -> Vec<u8> {
+        (0..length).map(|_| if self.random.once_in(2) { 0 } else { self.random.word() as u8 }).collect()
+    }
+
+    fn threshold(&mut self, record: &Record) -> u64 {
+        let any = self.random.word();
+        let depth = self.random.between(0, record.well_drawdown());
+        self.random.one_of(&[0, depth, depth / 10, depth / 100, any])
+    }
+
+    fn list(&mut self) -> Vec<u64> {
+        let length = self.random.between(0, 2 * self.places() as u64);
+        (0..length).map(|_| self.random.word()).collect()
+    }
+
+    /// Any other record: the list's own, the start's, one that differs in a drop of water, or none.
+    fn other(&mut self, record: &Record, start: &Record) -> Record {
+        let mut other = if self.random.once_in(2) { record.clone() } else { start.clone() };
+        match self.random.between(0, 4) {
+            0 => {
+                other.inflow += 1;
+                other.pumped += 1;
+            }
+            1 => other.time = self.random.word(),
+            2 => other = Record::zero(),
+            _ => (),
+        }
+        other
+    }
+}
+
+/// Makes a call on the record and in the ledger; says where the answers part.
+pub fn make(
+    call: Call,
+    record: &mut Record,
+    ledger: &mut Ledger,
+    site: &Site,
+    mistake: Option<Mistake>,
+) -> Result<(), String> {
+    match call {
+        Call::Step { rate, length } => {
+            let before = record.clone();
+            let outcome = step_with(record, rate, length, mistake);
+            equal(&format!("step {rate} {length}"), outcome, ledger.step(rate, length))?;
+            equal("record after a refused step", outcome.is_ok() || *record == before, true)
+        }
+        Call::Drawdown(place) => {
+            let wanted = ledger.places.contains_key(&place).then(|| ledger.drawdown(place) as u64);
+            equal("drawdown", readings::drawdown(record, place), wanted.ok_or(Refusal::Absent))
+        }
+        Call::Budget => equal("budget", readings::budget(record), Ok(ledger.budget())),
+        Call::StorageLoss(set) => equal("set", readings::storage_loss(record, &set), set_loss(ledger, site, &set)),
+        Call::Flow { from, to, length } => equal(
+            &format!("flow {from:?} {to:?}"),
+            readings::flow(record, from, to, length),
+            flow(ledger, from, to, length),
+        ),
+        Call::DeepCells { threshold, list } => deep_cells(record, ledger, threshold, list),
+        Call::Same { other, other_first } => {
+            let answer = if other_first { readings::same(&other, record) } else { readings::same(record, &other) };
+            equal("same", answer, same(ledger, site, &other))
+        }
+        Call::HeadLoss { layer, length } => {
+            let bits = |loss: HeadLoss| [loss.inflow.to_bits(), loss.screen.to_bits(), loss.pipe.to_bits()];
+            let answer = head_loss(record, layer, length).map(bits);
+            equal("head loss", answer, head_losses::expected(ledger, site, layer, length).map(bits))
+        }
+    }
+}
+
+/// 7 (length) and 8 on the ledger.
+pub fn judge_length(ledger: &Ledger, length: u64) -> Result<(), Refusal> {
+    if length == 0 || length > 1_000_000_000 {
+        Err(Refusal::Call)
+    } else if !ledger.stable(length) {
+        Err(Refusal::Stability)
+    } else {
+        Ok(())
+    }
+}
+
+/// The storage loss of a set by the water over its border.
+pub fn set_loss(ledger: &Ledger, site: &Site, set: &[u8]) -> Result<i64, Refusal> {
+    if set.len() != ledger.places.len() {
+        return Err(Refusal::Buffer);
+    }
+    let across = site.columns() as u64 - 1;
+    let index = |place| match place {
+        Place::Well => Some(0),
+        Place::Cell { column, .. } if column > across => None,
+        Place::Cell { layer, column } => Some(1 + (layer - 1) * across + (column - 1)),
+    };
+    let inside = |place| index(place).is_some_and(|index| set[index as usize] != 0);
+    Ok(ledger.loss_by_border(inside) as i64)
+}
+
+fn flow(ledger: &Ledger, from: Place, to: Place, length: u64) -> Result<i64, Refusal> {
+    let (face, sign) = ledger.face(from, to).ok_or(Refusal::Absent)?;
+    judge_length(ledger, length)?;
+    Ok((sign * ledger.flow(face, length)) as i64)
+}
+
+/// Each deep cell once at the front of the list, the rest untouched; with 13 all of it is.
+fn deep_cells(record: &Record, ledger: &Ledger, threshold: u64, list: Vec<u64>) -> Result<(), String> {
+    let mut wanted: Vec<u64> = Vec::new();
+    for &place in ledger.places.keys() {
+        if let Place::Cell { layer, column } = place {
+            if ledger.drawdown(place) > i128::from(threshold) {
+                wanted.push(layer * 100 + column);
+            }
+        }
+    }
+    let mut written = list.clone();
+    let answer = readings::deep_cells(record, threshold, &mut written);
+    if wanted.len() > list.len() {
+        equal("deep list too short", answer, Err(Refusal::Buffer))?;
+        return equal("list left", written, list);
+    }
+    equal("deep count", answer, Ok(wanted.len()))?;
+    equal("rest of the list", &written[wanted.len()..], &list[wanted.len()..])?;
+    written.truncate(wanted.len());
+    written.sort_unstable();
+    wanted.sort_unstable();
+    equal("deep cells", written, wanted)
+}
+
+fn same(ledger: &Ledger, site: &Site, other: &Record) -> Result<bool, Refusal> {
+    if other.fault().is_some() {
+        return Err(Refusal::Record);
+    }
+    let counts = (other.layers, other.columns) == (site.layers.len() as u64, site.columns() as u64);
+    let depths = ledger
+        .places
+        .keys()
+        .all(|&place| readings::drawdown(other, place).is_ok_and(|depth| i128::from(depth) == ledger.drawdown(place)));
+    Ok(counts && depths)
+}
+
+/// The record's losses, totals and time are the ledger's, 14 lets it pass, and the drawdowns keep their bounds.
+pub fn check_state(record: &Record, ledger: &Ledger) -> Result<(), String> {
+    equal("14", record.fault(), None)?;
+    equal("budget", readings::budget(record), Ok(ledger.budget()))?;
+    equal(
+        "totals",
+        (record.pumped.into(), record.inflow.into(), record.time.into()),
+        (ledger.pumped, ledger.inflow, ledger.time),
+    )?;
+    equal("well's loss", i128::from(record.well_loss), ledger.places[&Place::Well].loss)?;
+    for (layer, column) in record.stored_cells() {
+        let (place, at) = (cell(layer, column), reference_model::grid::slot(layer, column));
+        equal("cell's loss", i128::from(record.cell_loss[at]), ledger.places[&place].loss)?;
+        let depth = readings::drawdown(record, place).map(i128::from);
+        equal("drawdown", depth, Ok(ledger.drawdown(place)))?;
+        let bounded = depth.is_ok_and(|depth| (0..=ledger.deepest_well).contains(&depth));
+        equal("drawdown between 0 and the well's greatest", bounded, true)?;
+    }
+    Ok(())
+}

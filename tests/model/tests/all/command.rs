@@ -1,0 +1,109 @@
+//! The command: what it prints, and messages with a nonzero status.
+
+use crate::bore_k::{text_of, NUMBERS};
+use std::fs::{self, File};
+use std::path::PathBuf;
+use std::process::{Command, Output, Stdio};
+
+/// A directory of this test's own.
+fn directory(name: &str) -> PathBuf {
+    let path = PathBuf::from(env!("CARGO_TARGET_TMPDIR")).join(name);
+    let _ = fs::remove_dir_all(&path);
+    fs::create_dir_all(&path).unwrap();
+    path
+}
+
+fn model(words: &[&str], input: Stdio) -> Output {
+    Command::new(env!("CARGO_BIN_EXE_model")).args(words).stdin(input).output().unwrap()
+}
+
+/// The command with bytes on standard input, by way of a file.
+fn model_on(name: &str, words: &[&str], input: &[u8]) -> Output {
+    let path = directory(name).join("input");
+    fs::write(&path, input).unwrap();
+    model(words, File::open(path).unwrap().into())
+}
+
+fn printed(output: Output) -> String {
+    assert!(output.status.success() && output.stderr.is_empty(), "{output:?}");
+    String::from_utf8(output.stdout).unwrap()
+}
+
+fn assert_message(output: Output) {
+    assert!(!output.status.success(), "{output:?}");
+    assert!(output.stderr.starts_with(b"model: ") && output.stdout.is_empty(), "{output:?}");
+}
+
+#[test]
+fn bad_arguments_end_with_a_message() {
+    let bad: [&[&str]; 12] = [
+        &[],
+        &["list"],
+        &["listing", "more"],
+        &["entry"],
+        &["entry", "-1"],
+        &["entry", "+1"],
+        &["entry", "18446744073709551616"],
+        &["entry", ""],
+        &["scenarios", "1", "2"],
+        &["scenarios", "one", "2", "x"],
+        &["scenarios", "1", "2.5", "x"],
+        &["lambda", "1"],
+    ];
+    for words in bad {
+        assert_message(model(words, Stdio::null()));
+    }
+}
+
+#[test]
+fn unreadable_input_ends_with_a_message() {
+    let path = directory("unreadable");
+    for words in [&["listing"][..], &["readings"], &["start"], &["brief"], &["entry", "1"], &["lambda"]] {
+        assert_message(model(words, File::open(&path).unwrap().into()));
+    }
+    assert_message(model_on("lambda-bytes", &["lambda"], b"\xFF\xFE\n"));
+    assert_message(model_on("lambda-off", &["lambda"], b"600 200 1179626048\n"));
+    let file = path.join("file");
+    fs::write(&file, b"").unwrap();
+    assert_message(model(&["scenarios", "1", "2", file.to_str().unwrap()], Stdio::null()));
+}
+
+#[test]
+fn refused_scenarios_are_no_failure() {
+    for words in [["listing"], ["readings"], ["sums"], ["start"], ["brief"]] {
+        assert_eq!(printed(model_on(words[0], &words, b"\xFF")), "scenario 1\n");
+    }
+    assert_eq!(printed(model_on("entry", &["entry", "1"], b"")), "refused 1\n");
+}
+
+#[test]
+fn start_and_entries_are_printed() {
+    let k = text_of(&NUMBERS);
+    let start = printed(model_on("k-start", &["start"], &k));
+    assert!(start.contains("\nwellC 2 1143840361\nacrossC 1 5719201805\nacrossC 2 1143840361\ndownC 1 1256636\n"));
+    assert!(start.ends_with("wellS 30000000000\ncellS 1 150796400000\ncellS 2 1507964000\n"));
+    assert!(start.starts_with(&printed(model_on("k-brief", &["brief"], &k))));
+    assert_eq!(printed(model_on("k-entry", &["entry", "2"], &k)), "entry 1000 500000 1\n");
+    assert_eq!(printed(model_on("k-entry-3", &["entry", "3"], &k)), "refused 12\n");
+    let readings = printed(model_on("k-readings", &["readings"], &k));
+    assert!(readings
+        .contains("\ninward 500000 2 15267409\nacross 500000 1 0\nacross 500000 2 -3614535\ndown 500000 1 3970\n"));
+}
+
+#[test]
+fn scenarios_are_written_anew_alike() {
+    let (one, two) = (directory("one"), directory("two"));
+    for path in [&one, &two] {
+        printed(model(&["scenarios", "4", "30", path.to_str().unwrap()], Stdio::null()));
+    }
+    let names = |path: &PathBuf| -> Vec<_> {
+        let mut names: Vec<_> = fs::read_dir(path).unwrap().map(|entry| entry.unwrap().file_name()).collect();
+        names.sort();
+        names
+    };
+    assert_eq!(names(&one).len(), 30);
+    assert_eq!(names(&one), names(&two));
+    for name in names(&one) {
+        assert_eq!(fs::read(one.join(&name)).unwrap(), fs::read(two.join(&name)).unwrap());
+    }
+}

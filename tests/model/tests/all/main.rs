@@ -1,0 +1,13 @@
+//! Tests of the reference model.
+
+mod bore_k;
+mod calls;
+mod command;
+mod garbage;
+mod head_losses;
+mod logarithms;
+mod mistakes;
+mod records;
+mod runs;
+mod texts;
+mod thiem;

@@ -1,0 +1,262 @@
+//! Refusal 14: each condition broken once, beside its nearest allowed neighbour; refusals 9 to 11 at their edges.
+
+use crate::bore_k::text_of;
+use reference_model::grid::slot;
+use reference_model::limits::{CELLS, COLUMNS, LAYERS};
+use reference_model::record::{start, Record};
+use reference_model::refusal::Refusal;
+use reference_model::step::step;
+
+/// Four layers, the lower two screened, five columns, one coefficient, at its start.
+pub fn sample() -> Record {
+    let layers = [
+        4, 9000, 0, 500, 30, 200_000, 4000, 0, 700, 20, 50_000, 2000, 1, 90_000, 10, 50_000, 3000, 1, 70_000, 10,
+        40_000,
+    ];
+    let others = [5, 300, 700, 1600, 3000, 5000, 4, 100, 30_000, 8000, 20_000, 1, 7000, 0];
+    let (outcome, record) = start(&text_of(&[&layers[..], &others].concat()));
+    assert_eq!(outcome, Ok(()));
+    record
+}
+
+/// An edited copy of the sample has this fault or none.
+fn expect(fault: Option<&str>, edit: impl Fn(&mut Record)) {
+    expect_fault(fault, &edit);
+}
+
+fn expect_fault(fault: Option<&str>, edit: &dyn Fn(&mut Record)) {
+    let mut record = sample();
+    edit(&mut record);
+    assert_eq!(record.fault(), fault);
+    assert_eq!(record.judge(), fault.map_or(Ok(()), |_| Err(Refusal::Record)));
+}
+
+#[test]
+fn counts() {
+    expect(None, |_| ());
+    for count in [0, 1, 21, u64::MAX] {
+        expect(Some("layer count"), |record| record.layers = count);
+    }
+    for count in [0, 1, 51, u64::MAX] {
+        expect(Some("column count"), |record| record.columns = count);
+    }
+    for count in [3, u64::MAX] {
+        expect(Some("coefficient count"), |record| record.screen_loss_count = count);
+    }
+    expect(None, |record| record.screen_loss_count = 2);
+    expect(Some("unused coefficient slot"), |record| record.screen_loss_count = 0);
+    expect(Some("scenario number"), |record| record.layers = 5);
+    expect(Some("unused layer slot"), |record| record.layers = 3);
+    expect(Some("radii"), |record| record.columns = 6);
+    expect(Some("unused column slot"), |record| record.columns = 4);
+    assert_eq!(Record::zero().fault(), Some("layer count"));
+}
+
+#[test]
+fn scenario_numbers() {
+    let number = Some("scenario number");
+    for (value, fault) in [(0, number), (1, None), (1_000_000, None), (1_000_001, number), (u64::MAX, number)] {
+        expect(fault, |record| record.thickness[1] = value);
+    }
+    expect(number, |record| record.screened[1] = 2);
+    expect(None, |record| record.screened[1] = 1);
+    for (value, fault) in [(0, None), (100_000_000, None), (100_000_001, number)] {
+        expect(fault, |record| record.horizontal[2] = value);
+        expect(fault, |record| record.vertical[3] = value);
+    }
+    for (value, fault) in [(0, number), (1, None), (100_000_000, None), (100_000_001, number)] {
+        expect(fault, |record| record.storage[0] = value);
+    }
+    for (value, fault) in [(0, number), (1, None), (1_000_000, None), (1_000_001, number)] {
+        expect(fault, |record| record.storage[1] = value);
+    }
+    for (value, fault) in [(0, number), (1, None), (1_000_000_000, None), (1_000_000_001, number)] {
+        expect(fault, |record| {
+            record.water_area = value;
+            record.well_s = value * 1_000_000;
+        });
+    }
+    for (value, fault) in [(0, number), (1, None), (1_000_001, number), (u64::MAX, number)] {
+        expect(fault, |record| record.intake_depth = value);
+    }
+    for (value, fault) in [(0, None), (1_000_000, None), (1_000_001, number)] {
+        expect(fault, |record| record.friction = value);
+    }
+    for (value, fault) in [(0, None), (1_000_000_000_000, None), (1_000_000_000_001, number)] {
+        expect(fault, |record| record.screen_losses[0] = value);
+    }
+    for value in [9, 5001, 0, u64::MAX] {
+        expect(number, |record| record.well_radius = value);
+    }
+    for value in [2_000_001, u64::MAX] {
+        expect(number, |record| record.radii[4] = value);
+    }
+}
+
+#[test]
+fn rules_4_and_5() {
+    for (value, fault) in [(700, Some("radii")), (701, None), (2300, None), (2301, Some("radii"))] {
+        expect(fault, |record| record.radii[2] = value);
+    }
+    expect(None, |record| record.radii[4] = 3000 * 2 + 1600 * 3);
+    expect(Some("radii"), |record| record.radii[4] = 3000 * 2 + 1600 * 3 + 1);
+    expect(Some("radii"), |record| record.radii[4] = 3000);
+    expect(Some("radii"), |record| record.well_radius = 300);
+    expect(None, |record| record.well_radius = 299);
+    expect(None, |record| record.intake_depth = 12_999);
+    expect(Some("screen"), |record| record.intake_depth = 13_000);
+    expect(Some("screen"), |record| record.screened[0] = 1);
+    expect(Some("screen"), |record| record.screened = [0; LAYERS]);
+    expect(Some("screen"), |record| {
+        record.screened[1] = 1;
+        record.intake_depth = 9000;
+    });
+}
+
+#[test]
+fn coefficients() {
+    const MOST_C: u64 = 1_000_000_000_000_000;
+    const MOST_S: u64 = 1_000_000_000_000_000_000;
+    expect(Some("well's S"), |record| record.well_s += 1);
+    expect(Some("well's S"), |record| record.well_s = 0);
+    for (value, over) in [(0, false), (MOST_C, false), (MOST_C + 1, true), (u64::MAX, true)] {
+        expect(over.then_some("well face's C"), |record| record.well_c[2] = value);
+        expect(over.then_some("horizontal C"), |record| record.across_c[slot(1, 4)] = value);
+        expect(over.then_some("vertical C"), |record| record.down_c[slot(3, 4)] = value);
+    }
+    for (value, outside) in [(0, true), (1, false), (MOST_S, false), (MOST_S + 1, true), (u64::MAX, true)] {
+        expect(outside.then_some("cell's S"), |record| record.cell_s[slot(2, 4)] = value);
+    }
+}
+
+#[test]
+fn unused_slots() {
+    for row in 4..LAYERS {
+        expect(Some("unused layer slot"), |record| record.thickness[row] = 1);
+        expect(Some("unused layer slot"), |record| record.screened[row] = 1);
+        expect(Some("unused layer slot"), |record| record.horizontal[row] = 1);
+        expect(Some("unused layer slot"), |record| record.vertical[row] = 1);
+        expect(Some("unused layer slot"), |record| record.storage[row] = 1);
+    }
+    for column in 5..COLUMNS {
+        expect(Some("unused column slot"), |record| record.radii[column] = 1);
+    }
+    expect(Some("unused coefficient slot"), |record| record.screen_losses[1] = 1);
+    for row in (0..LAYERS).filter(|row| ![2, 3].contains(row)) {
+        expect(Some("well face's C"), |record| record.well_c[row] = 1);
+    }
+    for at in 0..CELLS {
+        let (layer, column) = (at / COLUMNS + 1, at % COLUMNS + 1);
+        let stored = layer <= 4 && column <= 4;
+        if !stored {
+            expect(Some("horizontal C"), |record| record.across_c[at] = 1);
+            expect(Some("unused S slot"), |record| record.cell_s[at] = 1);
+            for loss in [1, -1] {
+                expect(Some("unused loss slot"), |record| record.cell_loss[at] = loss);
+            }
+        }
+        if !stored || layer == 4 {
+            expect(Some("vertical C"), |record| record.down_c[at] = 1);
+        }
+    }
+}
+
+#[test]
+fn totals() {
+    const MOST: u64 = 4_000_000_000_000_000_000;
+    expect(None, |record| record.time = MOST);
+    expect(Some("time"), |record| record.time = MOST + 1);
+    for (more, fault) in [(0, None), (1, Some("pumped total"))] {
+        expect(fault, |record| {
+            record.pumped = MOST + more;
+            record.inflow = (MOST + more) as i64;
+        });
+    }
+    expect(Some("sum of losses"), |record| record.pumped = 1);
+    expect(Some("sum of losses"), |record| record.inflow = 1);
+    expect(Some("sum of losses"), |record| record.well_loss = 1);
+    expect(Some("sum of losses"), |record| record.cell_loss[slot(4, 4)] = 1);
+    let negative = Some("negative loss");
+    expect(negative, |record| (record.well_loss, record.inflow) = (-1, 1));
+    expect(negative, |record| (record.well_loss, record.inflow) = (1, -1));
+    expect(negative, |record| (record.well_loss, record.cell_loss[0]) = (1, -1));
+    expect(negative, |record| record.inflow = i64::MIN);
+    // These add up to 2^64.
+    expect(Some("sum of losses"), |record| {
+        (record.well_loss, record.inflow, record.cell_loss[0]) = (i64::MAX, i64::MAX, 2);
+    });
+}
+
+#[test]
+fn drawdowns() {
+    // S of the well is 30,000 mm² × 10^6, p is 8000 mm.
+    let most = 8_000_000 * 30_000;
+    for (loss, fault) in [(most, None), (most + 29_999, None), (most + 30_000, Some("well's drawdown"))] {
+        expect(fault, |record| (record.well_loss, record.pumped) = (loss, loss as u64));
+    }
+    let cell = |layer, storage, loss: i64| {
+        move |record: &mut Record| {
+            record.cell_s[slot(layer, 2)] = storage;
+            record.cell_loss[slot(layer, 2)] = loss;
+            record.pumped = loss as u64;
+        }
+    };
+    expect(None, cell(1, 1_000_000, 9_000_000));
+    expect(Some("layer 1's drawdown"), cell(1, 1_000_000, 9_000_001));
+    expect(None, cell(2, 1_000_000, 1_000_000_000));
+    expect(Some("cell's drawdown"), cell(2, 1_000_000, 1_000_000_001));
+    expect(Some("cell's drawdown"), cell(4, 1, 4_000_000_000_000_000_000));
+}
+
+#[test]
+fn totals_of_a_step() {
+    let most = 4_000_000_000_000_000_000;
+    let near = |pumped: u64, time| {
+        let mut record = sample();
+        (record.pumped, record.inflow, record.time) = (pumped, pumped as i64, time);
+        record
+    };
+    assert_eq!(step(&mut near(most - 70, 0), 7, 10), Ok(()));
+    assert_eq!(step(&mut near(most - 69, 0), 7, 10), Err(Refusal::Total));
+    assert_eq!(step(&mut near(0, most - 10), 7, 10), Ok(()));
+    assert_eq!(step(&mut near(0, most - 9), 7, 10), Err(Refusal::Total));
+    assert_eq!(step(&mut near(most, most), 0, 1), Err(Refusal::Total));
+    assert_eq!(step(&mut near(most, most - 1), 0, 1), Ok(()));
+}
+
+/// The sample with no water moving between its places.
+fn still() -> Record {
+    let mut record = sample();
+    record.well_c = [0; LAYERS];
+    record.across_c = [0; CELLS];
+    record.down_c = [0; CELLS];
+    record
+}
+
+#[test]
+fn well_drawdown_of_a_step() {
+    // The intake is passed at 30,000 nl over 8000 mm × 30,000 mm².
+    let bound = 8_000_000 * 30_000;
+    for (volume, outcome) in [(29_999, Ok(())), (30_000, Err(Refusal::Intake))] {
+        let mut record = still();
+        (record.well_loss, record.pumped) = (bound, bound as u64);
+        assert_eq!(step(&mut record, volume, 1), outcome);
+    }
+}
+
+#[test]
+fn water_table_of_a_step() {
+    // Layer 1 stands 1 µm above its bottom; in this step it takes on the drawdown of the cell below.
+    let (at, below) = (slot(1, 2), slot(2, 2));
+    for (depth, outcome) in [(9_000_000, Ok(())), (9_000_001, Err(Refusal::WaterTable))] {
+        let mut record = still();
+        record.down_c[at] = 1_000_000_000_000;
+        (record.cell_s[at], record.cell_s[below]) = (1_000_000, 1_000_000);
+        (record.cell_loss[at], record.cell_loss[below]) = (8_999_999, depth);
+        record.pumped = (8_999_999 + depth) as u64;
+        let before = record.clone();
+        assert_eq!(step(&mut record, 0, 1), outcome);
+        assert_eq!(record.cell_loss[at], if outcome.is_ok() { depth } else { 8_999_999 });
+        assert_eq!(outcome.is_err(), record == before);
+    }
+}
