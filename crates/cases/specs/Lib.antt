@@ -1,1 +1,3 @@
+pub mod Accepted
+pub mod BoreK
 pub mod Table

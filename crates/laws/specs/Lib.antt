@@ -1,4 +1,14 @@
 pub mod All
 pub mod Divide
 pub mod Every
+pub mod Fill
+pub mod Integer
 pub mod Number
+pub mod Padded
+pub mod Pointwise
+pub mod Ranges
+pub mod Refusal
+pub mod RowSums
+pub mod Rows
+pub mod Signed
+pub mod Sums

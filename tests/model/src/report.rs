@@ -85,6 +85,14 @@ pub fn write_entry(text: &[u8], number: u64, out: &mut impl Write) -> io::Result
     }
 }
 
+/// The first entries, the last that a text can have, and numbers that no entry has.
+pub fn write_entries(text: &[u8], out: &mut impl Write) -> io::Result<()> {
+    for number in [0, 1, 2, 500, 501] {
+        write_entry(text, number, out)?;
+    }
+    Ok(())
+}
+
 /// Runs the entries and writes every reading at the start (as entry 0, for a length of 1 µs) and after each entry.
 pub fn write_readings<W: Write>(text: &[u8], out: &mut W) -> io::Result<()> {
     let write = |heading: &str, body: &[u8], out: &mut W| {

@@ -1,0 +1,30 @@
+-- C of the faces and S of the cells of a scenario, by layer and column, from the rules of geometry.
+-- Layers count from 0 (01's layer is one more); columns from 1, and column 0 is the well.
+-- Assumes nothing.
+use Prim.Native.Nat.{ℕ, zero, suc, _-_}
+use lib.ListN.{getD}
+use Rattle.geometry.specs.Geometry.{logarithm, area, horizontal, vertical, unconfinedStorage, confinedStorage}
+use Rattle.site.specs.declared.Site.{Site}
+use Rattle.site.specs.Site.{radiiOf, midsection}
+
+-- Λ(u_(j+1), u_j)
+unfoldable pub logarithmAt : Site → ℕ → ℕ
+logarithmAt s j = logarithm (midsection (radiiOf s) (suc j)) (midsection (radiiOf s) j)
+
+-- A_j of a column j from 1 on, mm²
+unfoldable pub areaAt : Site → ℕ → ℕ
+areaAt s j = area (getD (radiiOf s) j 0) (getD (radiiOf s) (j - 1) 0)
+
+-- C of layer i between columns j and j+1, 10^-12 m²/s
+unfoldable pub acrossOf : Site → ℕ → ℕ → ℕ
+acrossOf s i j = horizontal (getD (s .thickness) i 0) (getD (s .kh) i 0) (logarithmAt s j)
+
+-- C of column j between layers i and i+1, 10^-12 m²/s
+unfoldable pub downOf : Site → ℕ → ℕ → ℕ
+downOf s i j =
+    vertical (areaAt s j) (getD (s .thickness) i 0) (getD (s .kv) i 0) (getD (s .thickness) (suc i) 0) (getD (s .kv) (suc i) 0)
+
+-- S of the cell of layer i and column j, nl per m: in layer 1 by its specific yield, below by its specific storage
+unfoldable pub storageOf : Site → ℕ → ℕ → ℕ
+storageOf s zero j = unconfinedStorage (areaAt s j) (getD (s .storage) 0 0)
+storageOf s (suc i) j = confinedStorage (areaAt s j) (getD (s .thickness) (suc i) 0) (getD (s .storage) (suc i) 0)

@@ -1,0 +1,34 @@
+-- Laws that this crate's proofs share: what the tests of a scenario say, which layers the well has a face with, what an array filled whole is.
+-- Assumes nothing.
+use mathlib.Core.Path.{_≡_, _∙_}
+use mathlib.Core.Bool.{true, and-false}
+use mathlib.Core.List.{List, map}
+use Prim.Native.Nat.{ℕ, _≤_}
+use native.Mathlib.Omega.{arith}
+use borrow.Author.Tests.{lt-ltb, eq-eqb, ne-eqb}
+use lib.Dec.{ltb}
+use lib.ListN.{getD, replicate}
+use Rattle.laws.specs.Sums.{range}
+use Rattle.laws.specs.Fill.{fill, fill-range}
+use Rattle.site.specs.declared.Site.{Site}
+use Rattle.site.specs.Laws.{counts-hold, numbers-hold, radii-hold}
+use Rattle.site.specs.Site.{isScreened, countsHold, numbersHold, radiiHold}
+use Rattle.record.specs.Record.{isCell, hasScreen}
+use Rattle.cells.specs.Worked.{Judged, slotOf}
+
+-- ---- what the tests of 2, 3 and 4 say
+pub judged-site : (s : Site) → countsHold s ≡ true → numbersHold s ≡ true → radiiHold s ≡ true → Judged s
+judged-site s counts numbers radii = record { counts = counts-hold s counts; numbers = numbers-hold s numbers; rises = radii-hold s numbers radii }
+
+-- ---- the well's faces
+pub no-screen : (s : Site) (i n : ℕ) → (getD (s .screened) i 0 ≡ 1 → ⊥) → 0 ≡ slotOf (hasScreen s i) n
+unfolding hasScreen isScreened slotOf
+no-screen s i n f = rw (ne-eqb (getD (s .screened) i 0) 1 f, and-false (ltb i (s .layers)))
+
+pub screen-cell : (s : Site) (i n : ℕ) → getD (s .screened) i 0 ≡ 1 → 2 ≤ s .columns → slotOf (isCell s i 0) n ≡ slotOf (hasScreen s i) n
+unfolding hasScreen isScreened isCell
+screen-cell s i n e h = rw (eq-eqb (getD (s .screened) i 0) 1 e, lt-ltb 0 (s .columns) (omega arith))
+
+-- ---- arrays
+pub filled-whole : (f : ℕ → ℕ) (n : ℕ) {k : ℕ} {l : List ℕ} → l ≡ fill k f (replicate n 0) → k ≡ n → l ≡ map f (range 0 n)
+filled-whole f n e z = e ∙ rw z (fill-range f 0 n)

@@ -1,0 +1,87 @@
+// Prints what the library makes of each scenario text that an argument names; the reference model prints the same (tests/stored).
+use libc::STDOUT_FILENO;
+use record::Outcome;
+use record::Record;
+use scenario::Pumping;
+
+fn print_word(n: u64) {
+    io::write_all(STDOUT_FILENO, b" ");
+    io::print_decimal(STDOUT_FILENO, n);
+}
+
+fn print_line_end() {
+    io::write_all(STDOUT_FILENO, b"\n");
+}
+
+// The outcome of start: the number of the refusal, or the record's checksum.
+fn print_start(text: &[u8]) {
+    let answer = scenario::start(text);
+    let outcome = answer.outcome;
+    let rec = answer.record;
+    match outcome {
+        Outcome::Refused(number) => {
+            io::write_all(STDOUT_FILENO, b"scenario");
+            print_word(number);
+        }
+        Outcome::Taken => {
+            io::write_all(STDOUT_FILENO, b"accepted");
+            print_word(rec.site.layers);
+            print_word(rec.site.columns);
+            print_word(checksum::checksum_of(rec));
+        }
+    }
+    print_line_end();
+}
+
+fn print_entry(text: &[u8], number: u64) {
+    let found = scenario::pumping_entry(text, number);
+    match found {
+        Pumping::Refused(refusal) => {
+            io::write_all(STDOUT_FILENO, b"refused");
+            print_word(refusal);
+        }
+        Pumping::Found(entry) => {
+            io::write_all(STDOUT_FILENO, b"entry");
+            print_word(entry.rate);
+            print_word(entry.length);
+            print_word(entry.repeats);
+        }
+    }
+    print_line_end();
+}
+
+fn print_entries(text: &[u8]) {
+    print_entry(text, 0);
+    print_entry(text, 1);
+    print_entry(text, 2);
+    print_entry(text, 500);
+    print_entry(text, 501);
+}
+
+// The text of the file that argument i names.
+fn compare(i: usize) {
+    let mut path = io::buffer();
+    let length = os::arg(i, &mut path);
+    io::write_all(STDOUT_FILENO, &path[..length]);
+    print_line_end();
+    let file = os::open_read(&path[..length]);
+    if file < 0 {
+        os::fail(&path[..length]);
+        return;
+    }
+    // one byte more than a text may have
+    let mut text = [0u8; 65537];
+    let got = io::read_full(file, &mut text);
+    libc::close(file);
+    print_start(&text[..got]);
+    print_entries(&text[..got]);
+}
+
+fn main() {
+    let n = os::arg_count();
+    let mut i = 1;
+    while i < n {
+        compare(i);
+        i += 1;
+    }
+}

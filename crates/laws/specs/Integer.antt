@@ -1,0 +1,126 @@
+-- Laws of ℤ: sums, differences of two natural numbers, the two parts of a number, its order.
+--     plus z, minus z       the parts above and below 0: z is plus z − minus z, and one of them is 0
+--     diff-..               sums and opposites of differences
+--     natural               a number that is not below 0 is its size
+--     odd-..                products and quotients rounded toward zero change sign with a factor
+-- Assumes nothing.
+use mathlib.Core.Path.{_≡_, refl, sym, ap, _∙_}
+use mathlib.Core.Bool.{false}
+use Prim.Native.Nat.{ℕ, zero, suc, _+_, _*_, _-_, _/_, _≤_, zero-le}
+use native.Mathlib.Nat.{le-trans, mul-zero, zero-mul, zero-div}
+use native.Mathlib.Omega.{arith}
+use lib.Dec.{leb→le, le→leb}
+use lib.IntN.{ℤ, pos, negsuc, negℤ, natAbs, _+ℤ_, _-ℤ_, _*ℤ_, +ℤ-idl, +ℤ-idr, +ℤ-assoc, +ℤ-comm, negℤ-+ℤ, negℤ-negℤ, +ℤ-negℤ-cancel}
+use lib.Signed.{quotZ, ltZ, _≤ℤ_, leZ-yes, ltZ-no, yes-nonNeg, pos-natAbs}
+
+-- ---- sums
+
+pub +ℤ-left-comm : (a b c : ℤ) → a +ℤ (b +ℤ c) ≡ b +ℤ (a +ℤ c)
++ℤ-left-comm a b c = sym (+ℤ-assoc a b c) ∙ ap (λ z. z +ℤ c) (+ℤ-comm a b) ∙ +ℤ-assoc b a c
+
+pub ruleset regroup = (+ℤ-assoc, +ℤ-comm, +ℤ-left-comm)
+
+pub +ℤ-swap : (a b c d : ℤ) → (a +ℤ b) +ℤ (c +ℤ d) ≡ (a +ℤ c) +ℤ (b +ℤ d)
++ℤ-swap a b c d = simp regroup
+
+-- ---- differences of natural numbers
+
+pub diff-add : (a b c d : ℕ) → (pos a -ℤ pos b) +ℤ (pos c -ℤ pos d) ≡ pos (a + c) -ℤ pos (b + d)
+diff-add a b c d = +ℤ-swap (pos a) (negℤ (pos b)) (pos c) (negℤ (pos d)) ∙ ap (λ z. pos (a + c) +ℤ z) (sym (negℤ-+ℤ (pos b) (pos d)))
+
+pub diff-neg : (a b : ℕ) → negℤ (pos a -ℤ pos b) ≡ pos b -ℤ pos a
+diff-neg a b = negℤ-+ℤ (pos a) (negℤ (pos b)) ∙ ap (λ z. negℤ (pos a) +ℤ z) (negℤ-negℤ (pos b)) ∙ +ℤ-comm (negℤ (pos a)) (pos b)
+
+pub diff-le : (a b : ℕ) → b ≤ a → pos a -ℤ pos b ≡ pos (a - b)
+diff-le a b h = ap (λ n. pos n -ℤ pos b) whole ∙ +ℤ-negℤ-cancel (pos (a - b)) (pos b)
+  where
+    whole : a ≡ a - b + b
+    whole = omega arith
+
+-- a natural number to which a is added and from which b is taken
+pub add-diff : (v a b : ℕ) → b ≤ v + a → pos v +ℤ (pos a -ℤ pos b) ≡ pos (v + a - b)
+add-diff v a b h = sym (+ℤ-assoc (pos v) (pos a) (negℤ (pos b))) ∙ diff-le (v + a) b h
+
+-- ---- the two parts
+
+abbrev pub plus : ℤ → ℕ
+plus (pos n) = n
+plus (negsuc n) = 0
+
+abbrev pub minus : ℤ → ℕ
+minus (pos n) = 0
+minus (negsuc n) = suc n
+
+pub parts : (z : ℤ) → z ≡ pos (plus z) -ℤ pos (minus z)
+parts (pos n) = sym (+ℤ-idr (pos n))
+parts (negsuc n) = sym (+ℤ-idl (negsuc n))
+
+pub abs-le : (z : ℤ) {n : ℕ} → plus z ≤ n → minus z ≤ n → natAbs z ≤ n
+abs-le (pos k) h g = h
+abs-le (negsuc k) h g = g
+
+pub plus-neg : (z : ℤ) → plus (negℤ z) ≡ minus z
+plus-neg (pos zero) = refl
+plus-neg (pos (suc n)) = refl
+plus-neg (negsuc n) = refl
+
+pub minus-neg : (z : ℤ) → minus (negℤ z) ≡ plus z
+minus-neg (pos zero) = refl
+minus-neg (pos (suc n)) = refl
+minus-neg (negsuc n) = refl
+
+-- ---- order
+
+pub natural : {z : ℤ} → pos 0 ≤ℤ z → z ≡ pos (natAbs z)
+natural {z} h = sym (pos-natAbs z (yes-nonNeg h))
+
+pub pos-≤ℤ : {a b : ℕ} → a ≤ b → pos a ≤ℤ pos b
+pos-≤ℤ {a} {b} h = leZ-yes (le→leb a b h)
+
+pub ≤ℤ-pos : {a b : ℕ} → pos a ≤ℤ pos b → a ≤ b
+≤ℤ-pos {a} {b} h = leb→le a b (h .le)
+
+pub no-minus : (z : ℤ) → minus z ≡ 0 → pos 0 ≤ℤ z
+no-minus (pos n) e = pos-≤ℤ zero-le
+no-minus (negsuc n) e = absurd (omega arith)
+
+pub nonneg-minus : {z : ℤ} → pos 0 ≤ℤ z → minus z ≡ 0
+nonneg-minus h = rw (natural h)
+
+pub no-plus : (z : ℤ) → plus z ≡ 0 → pos 0 ≤ℤ negℤ z
+no-plus (pos n) e = rw e (pos-≤ℤ zero-le)
+no-plus (negsuc n) e = pos-≤ℤ zero-le
+
+-- from 0 to n
+abbrev pub UpTo : ℕ → ℤ → Type 0
+UpTo n z = (pos 0 ≤ℤ z) × (z ≤ℤ pos n)
+
+pub abs-up-to : {n : ℕ} {z : ℤ} → UpTo n z → natAbs z ≤ n
+abs-up-to h = ≤ℤ-pos (rw (natural (h .0)) at (h .1))
+
+pub ≤ℤ-up : (z : ℤ) {a b : ℕ} → z ≤ℤ pos a → a ≤ b → z ≤ℤ pos b
+≤ℤ-up (pos n) h k = pos-≤ℤ (le-trans (≤ℤ-pos h) k)
+≤ℤ-up (negsuc n) h k = leZ-yes tt
+
+pub +ℤ-natural : {a b : ℤ} → pos 0 ≤ℤ a → pos 0 ≤ℤ b → pos 0 ≤ℤ (a +ℤ b)
++ℤ-natural h k = rw (natural h, natural k) (pos-≤ℤ zero-le)
+
+pub not-past : {a b : ℤ} → ltZ a b ≡ false → b ≤ℤ a
+not-past e = ltZ-no (rw e tt)
+
+-- ---- signs
+
+pub odd-times : (c : ℕ) (z : ℤ) → pos c *ℤ negℤ z ≡ negℤ (pos c *ℤ z)
+odd-times c (pos zero) = rw mul-zero
+odd-times c (pos (suc n)) = refl
+odd-times c (negsuc n) = sym (negℤ-negℤ (pos (c * suc n)))
+
+pub odd-by : (z : ℤ) (d : ℕ) → negℤ z *ℤ pos d ≡ negℤ (z *ℤ pos d)
+odd-by (pos zero) d = rw zero-mul
+odd-by (pos (suc n)) d = refl
+odd-by (negsuc n) d = sym (negℤ-negℤ (pos (suc n * d)))
+
+pub odd-quot : (z : ℤ) (d : ℕ) → quotZ (negℤ z) (pos d) ≡ negℤ (quotZ z (pos d))
+odd-quot (pos zero) d = rw zero-div
+odd-quot (pos (suc n)) d = refl
+odd-quot (negsuc n) d = sym (negℤ-negℤ (pos (suc n / d)))

@@ -1,0 +1,36 @@
+-- What refusal 14 asks of the part of a record that a step moves, and what the laws of a step ask of a network.
+-- Assumes nothing.
+use mathlib.Core.Path.{_≡_}
+use mathlib.Core.Bool.{true, false}
+use mathlib.Core.Logic.{_⊎_}
+use mathlib.Core.List.{List·Memᴰ}
+use Prim.Native.Nat.{ℕ, _*_, _≤_, _<_}
+use lib.IntN.{pos, _+ℤ_}
+use lib.Signed.{_≤ℤ_}
+use lib.ListN.{length}
+use Rattle.network.specs.Limits.{totalLimit, drawdownLimit}
+use Rattle.network.specs.Network.{Face, Network, State, isPlace, lossAt, storageAt, drawdown, lossIn, wellTooDeep, tableTooDeep}
+
+-- p is in layer 1 or in the last column
+abbrev pub OnTable : Network → ℕ → Type 0
+OnTable N p = List·Memᴰ p (N .table) ⊎ (N .places ≤ p)
+
+-- A network on which steps can be taken: the well is a place, every place stores water, the intake is no deeper than a D may be, and only faces
+-- within layer 1, or from it to the last column, are unconfined.
+pub record Proper (N : Network) : Type 0 where
+  pub well : 0 < N .places
+  pub storages : (p : ℕ) → p < N .places → 0 < storageAt N p
+  pub intake : 1000 * N .intake ≤ drawdownLimit
+  pub unconfined : (f : Face) → List·Memᴰ f (N .faces) → f .unconfined ≡ true → OnTable N (f .one) × OnTable N (f .two)
+
+-- A state in its limits: one loss for each place; losses and inflow not negative, adding up to the pumped total; totals and every D within bounds.
+pub record Kept (N : Network) (s : State) : Type 0 where
+  pub listed : length (s .losses) ≡ N .places
+  pub losses : (p : ℕ) → p < N .places → pos 0 ≤ℤ lossAt (s .losses) p
+  pub inflow : pos 0 ≤ℤ s .inflow
+  pub budget : lossIn N (isPlace N) (s .losses) +ℤ s .inflow ≡ pos (s .pumped)
+  pub pumped : s .pumped ≤ totalLimit
+  pub time : s .time ≤ totalLimit
+  pub well : wellTooDeep N (s .losses) ≡ false
+  pub table : tableTooDeep N (s .losses) ≡ false
+  pub depths : (p : ℕ) → p < N .places → drawdown N (s .losses) p ≤ℤ pos drawdownLimit

@@ -1,0 +1,5 @@
+pub mod Limits
+pub mod Network
+pub mod Grid
+pub mod Kept
+pub mod laws

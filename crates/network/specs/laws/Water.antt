@@ -1,0 +1,72 @@
+-- C in use is between 0 and C, and water that it lets through in Δt. Every bound on a step rests on in-use alone.
+-- Assumes nothing.
+use mathlib.Core.Path.{_≡_, refl, sym}
+use mathlib.Core.Bool.{Bool, true, false, cond}
+use Prim.Native.Nat.{ℕ, _+_, _*_, _-_, _/_, _^_, _≤_, zero-le}
+use native.Mathlib.Decide.{decLe}
+use native.Mathlib.Nat.{le-refl, mul-le-mul, mul-le-mul-left, mul-le-mul-right, div-mul-le-self, div-le-of-le-mul}
+use native.Mathlib.Omega.{arith}
+use lib.IntN.{ℤ, pos, negℤ, natAbs, _+ℤ_, _*ℤ_}
+use lib.Signed.{shrZ}
+use Rattle.laws.specs.Integer.{plus, minus, diff-neg, diff-le, plus-neg, minus-neg, natural, pos-≤ℤ, UpTo, abs-up-to, odd-times, odd-by, odd-quot}
+use Rattle.network.specs.Network.{Face, Network, saturated, inUse, water}
+
+-- C in use is at most C while, on an unconfined face, both drawdowns are within layer 1
+pub in-use : (N : Network) (f : Face) (Da Db : ℤ) → (f .unconfined ≡ true → UpTo (1000 * N .thickness) Da × UpTo (1000 * N .thickness) Db) → UpTo (f .conductance) (inUse N f Da Db)
+unfolding inUse saturated
+in-use N f Da Db h = go (f .unconfined) h
+  where
+    C : ℕ
+    C = f .conductance
+
+    b₁ : ℕ
+    b₁ = N .thickness
+
+    reduced : ℤ → ℤ → ℤ
+    reduced a b = shrZ (pos C *ℤ (saturated N a +ℤ saturated N b)) (2000 * b₁)
+
+    part : (a b : ℕ) → a ≤ 1000 * b₁ → b ≤ 1000 * b₁ → UpTo C (reduced (pos a) (pos b))
+    part a b u v = rw (diff-le (1000 * b₁) a u, diff-le (1000 * b₁) b v) (pos-≤ℤ zero-le, pos-≤ℤ (div-le-of-le-mul (2000 * b₁) (omega (arith, mul-le-mul-left C (most a b u v)))))
+      where
+        most : (a b : ℕ) → a ≤ 1000 * b₁ → b ≤ 1000 * b₁ → 1000 * b₁ - a + (1000 * b₁ - b) ≤ 2000 * b₁
+        most a b u v = omega arith
+
+    go : (t : Bool) → (t ≡ true → UpTo (1000 * b₁) Da × UpTo (1000 * b₁) Db) → UpTo C (cond t (reduced Da Db) (pos C))
+    go false k = (pos-≤ℤ zero-le, pos-≤ℤ (le-refl C))
+    go true k = rw (natural (k refl .0 .0), natural (k refl .1 .0)) (part (natAbs Da) (natAbs Db) (abs-up-to (k refl .0)) (abs-up-to (k refl .1)))
+
+-- ---- water between drawdowns a and b, neither below 0
+
+-- its size, rounded down, where the drawdowns are d apart
+unfoldable pub size : ℕ → ℕ → ℕ → ℕ
+size c d dt = c * d * dt / 10 ^ 12
+
+module _ (c a b dt : ℕ) where
+  pub runs-ahead : a ≤ b → water (pos c) (pos a) (pos b) dt ≡ pos (size c (b - a) dt)
+  unfolding water size
+  runs-ahead h = rw (diff-le b a h)
+
+  pub runs-back : b ≤ a → water (pos c) (pos a) (pos b) dt ≡ negℤ (pos (size c (a - b) dt))
+  unfolding water size
+  runs-back h =
+      rw (sym (diff-neg a b), diff-le a b h, odd-times c (pos (a - b)), odd-by (pos (c * (a - b))) dt)
+      (odd-quot (pos (c * (a - b) * dt)) (10 ^ 12))
+
+-- at a larger C and over a larger difference more water crosses
+size-le : (c C d B dt : ℕ) → c ≤ C → d ≤ B → size c d dt * 10 ^ 12 ≤ C * (B * dt)
+unfolding size
+size-le c C d B dt h k = omega (arith, div-mul-le-self (c * d * dt) (10 ^ 12), mul-le-mul-right dt (mul-le-mul h k))
+
+-- what runs ahead, where b is at most B above a, and what runs back, where a is at most B above b
+module _ (c C a b dt : ℕ) (h : c ≤ C) (B : ℕ) where
+  pub ahead-le : b ≤ a + B → plus (water (pos c) (pos a) (pos b) dt) * 10 ^ 12 ≤ C * (B * dt)
+  ahead-le k = elim (decLe a b) [
+    | yes u ↦ rw (runs-ahead c a b dt u) (size-le c C (b - a) B dt h (omega arith))
+    | no u ↦ rw (runs-back c a b dt (omega arith), plus-neg) zero-le
+  ]
+
+  pub back-le : a ≤ b + B → minus (water (pos c) (pos a) (pos b) dt) * 10 ^ 12 ≤ C * (B * dt)
+  back-le k = elim (decLe a b) [
+    | yes u ↦ rw (runs-ahead c a b dt u) zero-le
+    | no u ↦ rw (runs-back c a b dt (omega arith), minus-neg) (size-le c C (a - b) B dt h (omega arith))
+  ]

@@ -1,0 +1,114 @@
+-- What a record holds: its slots, the all-zero record, its grid and its state, and the answer that start and step give.
+-- Layers count from 0 (01's layer is one more); columns from 1, and column 0 is the well.
+-- Assumes nothing.
+use mathlib.Core.Bool.{Bool, _&&_}
+use mathlib.Core.List.{List, map}
+use Prim.Native.Nat.{ℕ, zero, suc, _+_, _*_, _-_, _/_, _%_}
+use lib.IntN.{ℤ, pos}
+use lib.Dec.{ltb}
+use lib.ListN.{getD, replicate}
+use Rattle.laws.specs.Sums.{range}
+use Rattle.network.specs.Network.{State}
+use Rattle.network.specs.Grid.{Grid, onePerPlace}
+use Rattle.site.specs.declared.Site.{Site}
+use Rattle.site.specs.Site.{isScreened}
+use Rattle.record.specs.declared.Record.{Record}
+use Rattle.record.specs.declared.Answer.{Answer}
+use Rattle.record.specs.declared.Outcome.{Outcome}
+use Rattle.record.specs.declared.Outcome.the-variants.{Taken, Refused}
+
+-- ---- slots
+-- the slot of the cell of layer i and column j in an array by cell
+unfoldable pub slot : ℕ → ℕ → ℕ
+slot i j = 50 * i + (j - 1)
+
+-- an array by cell: f of each layer and column, in the order of the slots
+unfoldable pub slots : {A : Type 0} → (ℕ → ℕ → A) → List A
+slots f = map (λ k. f (k / 50) (k % 50 + 1)) (range 0 1000)
+
+-- an array by layer
+unfoldable pub layerSlots : {A : Type 0} → (ℕ → A) → List A
+layerSlots f = map f (range 0 20)
+
+-- layer i and column j have a stored cell, and with it a face toward the next column
+unfoldable pub isCell : Site → ℕ → ℕ → Bool
+isCell s i j = ltb i (s .layers) && ltb j (s .columns)
+
+-- that cell has a face toward the layer below
+unfoldable pub hasBelow : Site → ℕ → ℕ → Bool
+hasBelow s i j = ltb (suc i) (s .layers) && ltb j (s .columns)
+
+-- layer i has a face with the well
+unfoldable pub hasScreen : Site → ℕ → Bool
+hasScreen s i = ltb i (s .layers) && isScreened (s .screened) i
+
+-- ---- the all-zero record
+unfoldable pub zeroSite : Site
+zeroSite = record {
+  layers = 0;
+  thickness = replicate 20 0;
+  screened = replicate 20 0;
+  kh = replicate 20 0;
+  kv = replicate 20 0;
+  storage = replicate 20 0;
+  columns = 0;
+  radii = replicate 50 0;
+  radius = 0;
+  area = 0;
+  intake = 0;
+  friction = 0;
+  coefficients = 0;
+  loss = replicate 2 0;
+}
+
+unfoldable pub zeroRecord : Record
+zeroRecord = record {
+  site = zeroSite;
+  screen = replicate 20 0;
+  horizontal = replicate 1000 0;
+  vertical = replicate 1000 0;
+  storages = replicate 1000 0;
+  losses = replicate 1000 (pos 0);
+  «well_storage» = 0;
+  «well_loss» = pos 0;
+  pumped = 0;
+  inflow = pos 0;
+  time = 0;
+}
+
+-- ---- the grid and the state that a record holds
+-- C of layer i between columns j and j+1
+unfoldable pub acrossIn : Record → ℕ → ℕ → ℕ
+acrossIn r i zero = getD (r .screen) i 0
+acrossIn r i (suc j) = getD (r .horizontal) (slot i (suc j)) 0
+
+unfoldable pub gridOf : Record → Grid
+gridOf r = record {
+  layers = r .site .layers;
+  columns = r .site .columns;
+  screened = isScreened (r .site .screened);
+  across = acrossIn r;
+  down = λ i j. getD (r .vertical) (slot i j) 0;
+  storage = λ i j. getD (r .storages) (slot i j) 0;
+  wellStorage = r .«well_storage»;
+  thickness = getD (r .site .thickness) 0 0;
+  intake = r .site .intake;
+}
+
+unfoldable pub stateOf : Record → State
+stateOf r = record {
+  losses = onePerPlace (gridOf r) (r .«well_loss») (λ i j. getD (r .losses) (slot i j) (pos 0));
+  pumped = r .pumped;
+  inflow = r .inflow;
+  time = r .time;
+}
+
+-- ---- the answer, by the number of the first refusal, 0 for none
+unfoldable pub outcomeOf : ℕ → Outcome
+outcomeOf zero = Taken
+outcomeOf (suc n) = Refused (suc n)
+
+-- refused: the number and the record `old`; taken: the record `new`
+unfoldable pub answerOf : ℕ → Record → Record → Answer
+answerOf zero old new = record { outcome = outcomeOf zero; «record» = new }
+answerOf (suc n) old new = record { outcome = outcomeOf (suc n); «record» = old }

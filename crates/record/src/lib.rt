@@ -1,0 +1,66 @@
+// The record of a run, by value, and the answer that start and step give.
+use site::Site;
+ghost use mathlib.Core.Path.{_≡_};
+ghost use Rattle.record.specs.Record.{zeroRecord};
+
+// Slot 50×i + j of an array of 1,000 is for layer i + 1 and column j + 1 of document 01: one slot for each cell, also for its face with
+// the next column and its face with the layer below. Slot i of `screen` is for layer i + 1.
+// A slot that no layer, column, face or place uses is 0; so the last column's slots are.
+pub struct Record {
+    pub site: Site, // the numbers of the first four sections
+    pub screen: [u64; 20], // C between the well and column 1, 10^-12 m²/s
+    pub horizontal: [u64; 1000], // C between the cell and the next column, 10^-12 m²/s
+    pub vertical: [u64; 1000], // C between the cell and the layer below, 10^-12 m²/s
+    pub storages: [u64; 1000], // S of the cell, nl per m
+    pub losses: [i64; 1000], // V of the cell, nl
+    pub well_storage: u64, // S of the well, nl per m
+    pub well_loss: i64, // V of the well, nl
+    pub pumped: u64, // pumped total, nl
+    pub inflow: i64, // inflow total, nl
+    pub time: u64, // µs
+}
+
+// What became of a scenario text or a step.
+pub enum Outcome {
+    Taken,
+    Refused(u64),
+}
+
+pub struct Answer {
+    pub outcome: Outcome,
+    pub record: Record,
+}
+
+// The all-zero record, of which every array begins as zeros.
+pub fn all_zero() -> Record
+    ensures { λ r. ⌜ r ≡ zeroRecord ⌝ }
+{
+    Record {
+        site: Site {
+            layers: 0,
+            thickness: [0; 20],
+            screened: [0; 20],
+            kh: [0; 20],
+            kv: [0; 20],
+            storage: [0; 20],
+            columns: 0,
+            radii: [0; 50],
+            radius: 0,
+            area: 0,
+            intake: 0,
+            friction: 0,
+            coefficients: 0,
+            loss: [0; 2],
+        },
+        screen: [0; 20],
+        horizontal: [0; 1000],
+        vertical: [0; 1000],
+        storages: [0; 1000],
+        losses: [0; 1000],
+        well_storage: 0,
+        well_loss: 0,
+        pumped: 0,
+        inflow: 0,
+        time: 0,
+    }
+}

@@ -1,0 +1,16 @@
+-- `scenario::refused` meets its contract. Assumes nothing.
+use mathlib.Core.Path.{ap}
+use borrow.Author.Needs.{needs}
+use Rattle.record.specs.declared.Answer.{Answer}
+use Rattle.record.specs.declared.Outcome.the-variants.{Refused}
+use Rattle.scenario.proofs.refused.Statement.{statement}
+use Rattle.scenario.proofs.refused.Tie as tie
+
+all-zero-requires : tie.Need-all-zero-requires
+all-zero-requires c κs = search needs
+
+returns : tie.Need-returns
+returns c = cc
+
+pub refused-spec : {M : Type 1} → statement M
+refused-spec = tie.close (tie.spec all-zero-requires returns)
