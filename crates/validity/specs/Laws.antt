@@ -1,0 +1,158 @@
+-- What `valid` says of a record, for the proofs of this and other crates: laws only, nothing to believe.
+--     kept-from, from-kept       the tests of a state's totals and drawdowns, and network's Kept
+--     Valid                      what a record that 14 lets pass is
+--     valid-record               from the test; record-valid: back to it
+--     valid-proper               the network of such a record is one on which steps can be taken
+-- Assumes nothing.
+use mathlib.Core.Path.{_≡_, refl, sym, ap, _∙_}
+use mathlib.Core.Bool.{Bool, true, false, not, _&&_, false≢true}
+use mathlib.Core.List.{List}
+use Prim.Native.Nat.{ℕ, suc, _*_, _≤_, _<_, zero-le}
+use native.Mathlib.Nat.{le-antisymm, le-refl}
+use native.Mathlib.Omega.{arith}
+use borrow.Author.Tests.{leb-true, le-leb, eqb-true, eq-eqb, not-true}
+use lib.Dec.{T, leb, ltb, eqb}
+use lib.IntN.{ℤ, pos, negsuc, _+ℤ_}
+use lib.ListN.{length, getD}
+use lib.Signed.{leZ, nonNeg, _≤ℤ_, leZ-yes}
+use Rattle.laws.specs.All.{allBelow, all-at, and-left, and-right}
+use Rattle.laws.specs.Every.{every, every-at}
+use Rattle.laws.specs.Integer.{pos-≤ℤ}
+use Rattle.laws.specs.Pointwise.{every-from}
+use Rattle.laws.specs.Rows.{both-hold, three-hold, four-hold, all-from}
+use Rattle.network.specs.Limits.{totalLimit, drawdownLimit}
+use Rattle.network.specs.Network.{Network, State, isPlace, lossAt, drawdown, lossIn, wellTooDeep, tableTooDeep}
+use Rattle.network.specs.Grid.{networkOf}
+use Rattle.network.specs.Kept.{Proper, Kept}
+use Rattle.network.specs.laws.Places.{length-one}
+use Rattle.network.specs.laws.Proper.{proper-grid}
+use Rattle.geometry.specs.Geometry.{wellStorage}
+use Rattle.site.specs.Site.{isScreened, countsHold, numbersHold, radiiHold, screenLayer, screenTop, screenHolds}
+use Rattle.site.specs.Laws.{numbers-hold}
+use Rattle.record.specs.declared.Record.{Record}
+use Rattle.record.specs.Record.{gridOf, stateOf}
+use Rattle.slots.specs.Slots.{coefficientsHold, coefficientsUnused}
+use Rattle.slots.specs.Laws.{Coefficients, coefficients-hold, hold-coefficients}
+use Rattle.validity.specs.Validity.{siteHolds, siteUnused, lossesUnused, equalℤ, totalsHold, drawdownsHold, valid}
+
+-- ---- tests of integers
+so : {b : Bool} → b ≡ true → T b
+so e = rw e tt
+
+holds : (b : Bool) → T b → b ≡ true
+holds true t = refl
+holds false t = absurd t
+
+pub at-least-0 : (v : ℤ) → nonNeg v ≡ true → pos 0 ≤ℤ v
+at-least-0 (pos n) e = pos-≤ℤ zero-le
+at-least-0 (negsuc n) e = absurd (false≢true e)
+
+pub not-below-0 : (v : ℤ) → pos 0 ≤ℤ v → nonNeg v ≡ true
+not-below-0 (pos n) h = refl
+not-below-0 (negsuc n) h = absurd (h .le)
+
+equal : (a b : ℤ) → equalℤ a b ≡ true → a ≡ b
+equal (pos m) (pos n) e = ap pos (le-antisymm (leb-true m n (and-left (leb m n) (leb n m) e)) (leb-true n m (and-right (leb m n) (leb n m) e)))
+equal (negsuc m) (negsuc n) e = ap negsuc (le-antisymm (leb-true m n (and-right (leb n m) (leb m n) e)) (leb-true n m (and-left (leb n m) (leb m n) e)))
+equal (pos m) (negsuc n) e = absurd (false≢true e)
+equal (negsuc m) (pos n) e = absurd (false≢true e)
+
+itself : (a : ℤ) → equalℤ a a ≡ true
+itself (pos n) = rw (le-leb n n (le-refl n))
+itself (negsuc n) = rw (le-leb n n (le-refl n))
+
+-- ---- a state's totals and drawdowns
+module _ (N : Network) (s : State) (listed : length (s .losses) ≡ N .places) where
+  pub kept-from : totalsHold N s ≡ true → drawdownsHold N (s .losses) ≡ true → Kept N s
+  unfolding totalsHold drawdownsHold lossAt
+  kept-from t d =
+      let balance = equalℤ (lossIn N (isPlace N) (s .losses) +ℤ s .inflow) (pos (s .pumped)) in
+      let totals = four-hold (every nonNeg (s .losses) && nonNeg (s .inflow)) balance (leb (s .pumped) totalLimit) (leb (s .time) totalLimit) t in
+      let depths = three-hold (not (wellTooDeep N (s .losses))) (not (tableTooDeep N (s .losses))) (allBelow (N .places) (λ p. leZ (drawdown N (s .losses) p) (pos drawdownLimit))) d in
+      record {
+        listed = listed;
+        losses = λ p h. at-least-0 _ (every-at nonNeg (s .losses) p (pos 0) (and-left (every nonNeg (s .losses)) (nonNeg (s .inflow)) (totals .0)) (omega (arith, listed)));
+        inflow = at-least-0 _ (and-right (every nonNeg (s .losses)) (nonNeg (s .inflow)) (totals .0));
+        budget = equal _ _ (totals .1);
+        pumped = leb-true _ _ (totals .2);
+        time = leb-true _ _ (totals .3);
+        well = not-true _ (depths .0);
+        table = not-true _ (depths .1);
+        depths = λ p h. leZ-yes (so (all-at _ (N .places) p (depths .2) h));
+      }
+
+module _ (N : Network) (s : State) (kept : Kept N s) where
+  pub kept-totals : totalsHold N s ≡ true
+  unfolding totalsHold lossAt
+  kept-totals =
+      both-hold (both-hold (both-hold (both-hold
+      (every-from nonNeg (s .losses) (pos 0) (λ p h. not-below-0 _ (kept .losses p (omega (arith, kept .listed)))))
+      (not-below-0 _ (kept .inflow)))
+      (rw (kept .budget) (itself (pos (s .pumped)))))
+      (le-leb _ _ (kept .pumped)))
+      (le-leb _ _ (kept .time))
+
+  pub kept-drawdowns : drawdownsHold N (s .losses) ≡ true
+  unfolding drawdownsHold
+  kept-drawdowns =
+      both-hold (both-hold (ap not (kept .well)) (ap not (kept .table)))
+      (all-from _ (N .places) (λ p h. holds _ (kept .depths p h .le)))
+
+-- ---- a record that 14 lets pass
+pub record Valid (r : Record) : Type 0 where
+  pub counts : countsHold (r .site) ≡ true
+  pub numbers : numbersHold (r .site) ≡ true
+  pub radii : radiiHold (r .site) ≡ true
+  pub screen : screenHolds (r .site) ≡ true
+  pub siteUnused : siteUnused (r .site) ≡ true
+  pub coefficientsUnused : coefficientsUnused r ≡ true
+  pub lossesUnused : lossesUnused r ≡ true
+  pub coefficients : Coefficients (gridOf r)
+  pub wellStorage : r .«well_storage» ≡ wellStorage (r .site .area)
+  pub kept : Kept (networkOf (gridOf r)) (stateOf r)
+
+module _ (r : Record) where
+  losses-listed : length (stateOf r .losses) ≡ networkOf (gridOf r) .places
+  unfolding stateOf networkOf
+  losses-listed = length-one (gridOf r) _ _
+
+  pub valid-record : valid r ≡ true → Valid r
+  unfolding valid siteHolds
+  valid-record e =
+      let well = eqb (r .«well_storage») (wellStorage (r .site .area)) in
+      let totals = totalsHold (networkOf (gridOf r)) (stateOf r) in
+      let depths = drawdownsHold (networkOf (gridOf r)) (stateOf r .losses) in
+      let slots = siteHolds (r .site) && siteUnused (r .site) && coefficientsUnused r && lossesUnused r in
+      let last = four-hold (slots && coefficientsHold (gridOf r)) well totals depths e in
+      let zeros = four-hold (siteHolds (r .site)) (siteUnused (r .site)) (coefficientsUnused r) (lossesUnused r) (and-left slots (coefficientsHold (gridOf r)) (last .0)) in
+      let site = four-hold (countsHold (r .site)) (numbersHold (r .site)) (radiiHold (r .site)) (screenHolds (r .site)) (zeros .0) in
+      record {
+        counts = site .0;
+        numbers = site .1;
+        radii = site .2;
+        screen = site .3;
+        siteUnused = zeros .1;
+        coefficientsUnused = zeros .2;
+        lossesUnused = zeros .3;
+        coefficients = coefficients-hold (gridOf r) (and-right slots (coefficientsHold (gridOf r)) (last .0));
+        wellStorage = eqb-true _ _ (last .1);
+        kept = kept-from (networkOf (gridOf r)) (stateOf r) losses-listed (last .2) (last .3);
+      }
+
+  pub record-valid : Valid r → valid r ≡ true
+  unfolding valid siteHolds
+  record-valid v =
+      both-hold (both-hold (both-hold (both-hold (both-hold (both-hold (both-hold
+      (both-hold (both-hold (both-hold (v .counts) (v .numbers)) (v .radii)) (v .screen))
+      (v .siteUnused)) (v .coefficientsUnused)) (v .lossesUnused))
+      (hold-coefficients (gridOf r) (v .coefficients)))
+      (eq-eqb _ _ (v .wellStorage)))
+      (kept-totals (networkOf (gridOf r)) (stateOf r) (v .kept)))
+      (kept-drawdowns (networkOf (gridOf r)) (stateOf r) (v .kept))
+
+  pub valid-proper : Valid r → Proper (networkOf (gridOf r))
+  unfolding gridOf screenHolds wellStorage
+  valid-proper v =
+      let well = numbers-hold (r .site) (v .numbers) .well in
+      let unscreened = three-hold (ltb (screenLayer (r .site)) (r .site .layers)) (not (isScreened (r .site .screened) 0)) (ltb (r .site .intake) (screenTop (r .site))) (v .screen) .1 in
+      proper-grid (gridOf r) (not-true _ unscreened) (omega (arith, v .wellStorage)) (λ i j h one k. omega (arith, v .coefficients .storage i j h one k .least)) (omega (arith, well .intake-most))

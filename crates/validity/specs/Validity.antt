@@ -1,0 +1,62 @@
+-- Which records 14 refuses (document 01, 'Who brings a refusal about'), clause by clause.
+-- Assumes nothing.
+use mathlib.Core.Bool.{Bool, false, not, _&&_, _||_}
+use mathlib.Core.List.{List}
+use Prim.Native.Nat.{ℕ}
+use lib.IntN.{ℤ, pos, negsuc, _+ℤ_}
+use lib.Dec.{leb, eqb}
+use lib.Signed.{leZ, nonNeg}
+use lib.ListN.{getD, drop}
+use Rattle.laws.specs.All.{allBelow}
+use Rattle.laws.specs.Every.{every}
+use Rattle.network.specs.Limits.{totalLimit, drawdownLimit}
+use Rattle.network.specs.Network.{Network, State, isPlace, drawdown, lossIn, wellTooDeep, tableTooDeep}
+use Rattle.network.specs.Grid.{networkOf}
+use Rattle.geometry.specs.Geometry.{wellStorage}
+use Rattle.site.specs.declared.Site.{Site}
+use Rattle.site.specs.Site.{countsHold, numbersHold, radiiHold, screenHolds}
+use Rattle.record.specs.declared.Record.{Record}
+use Rattle.record.specs.Record.{isCell, gridOf, stateOf}
+use Rattle.slots.specs.Slots.{coefficientsHold, coefficientsUnused, usedSlot}
+
+-- ---- 0 in every slot that nothing uses
+abbrev pub isZeroℤ : ℤ → Bool
+isZeroℤ (pos n) = eqb n 0
+isZeroℤ (negsuc n) = false
+
+-- an array by layer, column or coefficient of which the first n slots are used
+unfoldable pub zeroFrom : ℕ → List ℕ → Bool
+zeroFrom n l = every (λ x. eqb x 0) (drop n l)
+
+unfoldable pub siteUnused : Site → Bool
+siteUnused s =
+    zeroFrom (s .layers) (s .thickness) && zeroFrom (s .layers) (s .screened) && zeroFrom (s .layers) (s .kh) && zeroFrom (s .layers) (s .kv)
+    && zeroFrom (s .layers) (s .storage) && zeroFrom (s .columns) (s .radii) && zeroFrom (s .coefficients) (s .loss)
+
+unfoldable pub lossesUnused : Record → Bool
+lossesUnused r = allBelow 1000 (λ k. usedSlot (isCell (r .site)) k || isZeroℤ (getD (r .losses) k (pos 0)))
+
+-- ---- losses and inflow are not negative and add up to the pumped total, and that is at most 4×10^18, as the time is
+abbrev pub equalℤ : ℤ → ℤ → Bool
+equalℤ a b = leZ a b && leZ b a
+
+unfoldable pub totalsHold : Network → State → Bool
+totalsHold N s =
+    every nonNeg (s .losses) && nonNeg (s .inflow)
+    && equalℤ (lossIn N (isPlace N) (s .losses) +ℤ s .inflow) (pos (s .pumped))
+    && leb (s .pumped) totalLimit && leb (s .time) totalLimit
+
+-- ---- no D is past the bounds of 10 and 11, or past 10^9 µm
+unfoldable pub drawdownsHold : Network → List ℤ → Bool
+drawdownsHold N vs =
+    not (wellTooDeep N vs) && not (tableTooDeep N vs) && allBelow (N .places) (λ p. leZ (drawdown N vs p) (pos drawdownLimit))
+
+-- ---- 14 refuses a record that breaks any of these
+unfoldable pub siteHolds : Site → Bool
+siteHolds s = countsHold s && numbersHold s && radiiHold s && screenHolds s
+
+unfoldable pub valid : Record → Bool
+valid r =
+    siteHolds (r .site) && siteUnused (r .site) && coefficientsUnused r && lossesUnused r
+    && coefficientsHold (gridOf r) && eqb (r .«well_storage») (wellStorage (r .site .area))
+    && totalsHold (networkOf (gridOf r)) (stateOf r) && drawdownsHold (networkOf (gridOf r)) (stateOf r .losses)

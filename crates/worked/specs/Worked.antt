@@ -1,0 +1,136 @@
+-- One step by slots, all faces from the D at its start: the answer of `work_step`, and what it asks of the arrays that it is lent.
+-- Slot 50×i + (j − 1) is for layer i (from 0) and column j (from 1). Units as in the network's definitions.
+-- Assumes nothing.
+use mathlib.Core.Bool.{cond}
+use mathlib.Core.List.{List, [], _∷_, map}
+use Prim.Native.Nat.{ℕ, _+_, _*_, _-_, _/_, _%_, _^_, _≤_, _<_}
+use lib.IntN.{ℤ, pos, negℤ, natAbs, _+ℤ_, _-ℤ_}
+use lib.Signed.{_≤ℤ_}
+use lib.Dec.{eqb, leb, ltb}
+use lib.ListN.{getD, replicate}
+use Rattle.laws.specs.Fill.{fill}
+use Rattle.laws.specs.Sums.{ifℤ, sumℤ, range, Room}
+use Rattle.network.specs.Limits.{rateLimit, lengthLimit, totalLimit, drawdownLimit}
+use Rattle.network.specs.Network.{water}
+use Rattle.flows.specs.Flows.{depthOf, depthAt, reducedC}
+use Rattle.worked.specs.declared.Worked.{Worked}
+
+-- what a step is worked from
+pub record Lent : Type 0 where
+  pub layers : ℕ  -- how many
+  pub columns : ℕ  -- m, how many
+  pub thickness : ℕ  -- b_1, mm
+  pub screen : List ℕ  -- C between the well and column 1, by layer
+  pub horizontal : List ℕ  -- C between the cell and the next column
+  pub vertical : List ℕ  -- C between the cell and the layer below
+  pub storages : List ℕ  -- S of the cell
+  pub losses : List ℤ  -- V of the cell
+  pub wellStorage : ℕ  -- S of the well
+  pub wellLoss : ℤ  -- V of the well
+  pub inflow : ℤ  -- inflow total
+  pub rate : ℕ
+  pub dt : ℕ
+
+-- from the parameters of `work_step`, in their order
+abbrev pub lent : ℕ → ℕ → ℕ → List ℕ → List ℕ → List ℕ → List ℕ → List ℤ → ℕ → ℤ → ℤ → ℕ → ℕ → Lent
+lent layers columns thickness screen horizontal vertical storages losses wellStorage wellLoss inflow rate dt = record {
+  layers = layers;
+  columns = columns;
+  thickness = thickness;
+  screen = screen;
+  horizontal = horizontal;
+  vertical = vertical;
+  storages = storages;
+  losses = losses;
+  wellStorage = wellStorage;
+  wellLoss = wellLoss;
+  inflow = inflow;
+  rate = rate;
+  dt = dt;
+}
+
+-- how many slots the layers have
+abbrev pub slotCount : Lent → ℕ
+slotCount a = 50 * a .layers
+
+-- ---- at the start of the step
+
+-- D of the cell of slot k, and of the well
+unfoldable pub depth : Lent → ℕ → ℤ
+depth a k = depthAt (a .losses) (a .storages) k
+
+unfoldable pub wellDepth : Lent → ℤ
+wellDepth a = depthOf (a .wellLoss) (a .wellStorage)
+
+-- C in use of the face between slot k and the next column: reduced in layer 1, of which the slots before the last column come first
+unfoldable pub conductance : Lent → ℕ → ℤ
+conductance a k =
+    cond (ltb (k + 1) (a .columns))
+    (reducedC (a .thickness) (getD (a .horizontal) k 0) (depth a k) (depth a (k + 1)))
+    (pos (getD (a .horizontal) k 0))
+
+-- ---- the water of each face
+
+-- from slot k to the next column
+unfoldable pub right : Lent → ℕ → ℤ
+right a k = water (conductance a k) (depth a k) (depth a (k + 1)) (a .dt)
+
+-- from slot k to the layer below, where there is one
+unfoldable pub lower : Lent → ℕ → ℤ
+lower a k = ifℤ (ltb (k + 50) (slotCount a)) (water (pos (getD (a .vertical) k 0)) (depth a k) (depth a (k + 50)) (a .dt))
+
+-- from the well to column 1 of layer i
+unfoldable pub fromWell : Lent → ℕ → ℤ
+fromWell a i = water (pos (getD (a .screen) i 0)) (wellDepth a) (depth a (50 * i)) (a .dt)
+
+-- to slot k from the column before it, which for column 1 is the well
+unfoldable pub left : Lent → ℕ → ℤ
+left a k = cond (eqb (k % 50) 0) (fromWell a (k / 50)) (right a (k - 1))
+
+-- to slot k from the layer above, where there is one
+unfoldable pub upper : Lent → ℕ → ℤ
+upper a k = ifℤ (leb 50 k) (lower a (k - 50))
+
+-- from column m−1 of layer i to the last column
+unfoldable pub toLast : Lent → ℕ → ℤ
+toLast a i = right a (50 * i + (a .columns - 2))
+
+-- ---- after the step
+
+-- V of slot k: water leaving a place raises its V; nothing is stored from the last column on
+unfoldable pub lossAfter : Lent → ℕ → ℤ
+lossAfter a k = ifℤ (ltb (k % 50 + 1) (a .columns)) (getD (a .losses) k (pos 0) +ℤ right a k +ℤ lower a k -ℤ left a k -ℤ upper a k)
+
+-- V of the well: ml/s × µs is nl
+unfoldable pub wellAfter : Lent → ℤ
+wellAfter a = a .wellLoss +ℤ sumℤ (range 0 (a .layers)) (fromWell a) +ℤ pos (a .rate * a .dt)
+
+-- the inflow total: water from the last column joins it
+unfoldable pub inflowAfter : Lent → ℤ
+inflowAfter a = a .inflow +ℤ sumℤ (range 0 (a .layers)) (λ i. negℤ (toLast a i))
+
+unfoldable pub workedOf : Lent → Worked
+workedOf a = record {
+  losses = fill (slotCount a) (lossAfter a) (replicate 1000 (pos 0));
+  «well_loss» = wellAfter a;
+  inflow = inflowAfter a;
+}
+
+-- ---- what is asked: every number in its limits, and every sum on the way between 0 and the largest total
+pub record Workable (a : Lent) : Type 0 where
+  pub layers : (1 ≤ a .layers) × (a .layers ≤ 20)
+  pub columns : (2 ≤ a .columns) × (a .columns ≤ 50)
+  pub thickness : (0 < a .thickness) × (2000 * a .thickness < 2 ^ 64)
+  pub rate : a .rate ≤ rateLimit
+  pub dt : a .dt ≤ lengthLimit
+  pub losses : (k : ℕ) → k < slotCount a → pos 0 ≤ℤ getD (a .losses) k (pos 0)
+  pub depths : (k : ℕ) → k < slotCount a → depth a k ≤ℤ pos drawdownLimit
+  pub table : (k : ℕ) → k < a .columns → depth a k ≤ℤ pos (1000 * a .thickness)
+  pub well : (pos 0 ≤ℤ a .wellLoss) × (wellDepth a ≤ℤ pos drawdownLimit)
+  pub rights : (k : ℕ) → k + 1 < slotCount a → natAbs (right a k) ≤ totalLimit
+  pub lowers : (k : ℕ) → natAbs (lower a k) ≤ totalLimit
+  pub screens : (i : ℕ) → i < a .layers → natAbs (fromWell a i) ≤ totalLimit
+  pub cellRoom : (k : ℕ) → k < slotCount a → k % 50 + 1 < a .columns
+      → Room totalLimit (getD (a .losses) k (pos 0)) (right a k ∷ lower a k ∷ negℤ (left a k) ∷ negℤ (upper a k) ∷ [])
+  pub wellRoom : Room totalLimit (a .wellLoss) (map (fromWell a) (range 0 (a .layers)))
+  pub lastRoom : Room totalLimit (a .inflow) (map (λ i. negℤ (toLast a i)) (range 0 (a .layers)))
