@@ -3,6 +3,7 @@ use libc::STDOUT_FILENO;
 use record::Outcome;
 use record::Record;
 use scenario::Pumping;
+use sections::Entry;
 
 fn print_word(n: u64) {
     io::write_all(STDOUT_FILENO, b" ");
@@ -58,6 +59,70 @@ fn print_entries(text: &[u8]) {
     print_entry(text, 501);
 }
 
+// What the steps of an entry come to: the refusal that ended them, or 0, and the record after those before it.
+struct Ran {
+    refusal: u64,
+    record: Record,
+}
+
+fn run(start: Record, entry: Entry) -> Ran {
+    let mut rec = start;
+    let mut k: u64 = 0;
+    while k < entry.repeats {
+        let answer = step::step(rec, entry.rate, entry.length);
+        let outcome = answer.outcome;
+        if let Outcome::Refused(refusal) = outcome {
+            return Ran {
+                refusal,
+                record: rec,
+            };
+        }
+        let next = answer.record;
+        rec = next;
+        k += 1;
+    }
+    Ran {
+        refusal: 0,
+        record: rec,
+    }
+}
+
+fn print_run(number: u64, ran: Ran) {
+    io::write_all(STDOUT_FILENO, b"after");
+    print_word(number);
+    if ran.refusal == 0 {
+        io::write_all(STDOUT_FILENO, b" taken");
+    } else {
+        io::write_all(STDOUT_FILENO, b" refused");
+        print_word(ran.refusal);
+    }
+    let rec = ran.record;
+    print_word(checksum::checksum_of(rec));
+    print_line_end();
+}
+
+// The pumping entries, one after the other, each from the record that the one before it left.
+fn print_runs(text: &[u8]) {
+    let answer = scenario::start(text);
+    let outcome = answer.outcome;
+    if let Outcome::Refused(_) = outcome {
+        return;
+    }
+    let mut rec = answer.record;
+    let mut number: u64 = 1;
+    while number <= 500 {
+        let found = scenario::pumping_entry(text, number);
+        let Pumping::Found(entry) = found else {
+            return;
+        };
+        let ran = run(rec, entry);
+        print_run(number, ran);
+        let after = ran.record;
+        rec = after;
+        number += 1;
+    }
+}
+
 // The text of the file that argument i names.
 fn compare(i: usize) {
     let mut path = io::buffer();
@@ -75,6 +140,7 @@ fn compare(i: usize) {
     libc::close(file);
     print_start(&text[..got]);
     print_entries(&text[..got]);
+    print_runs(&text[..got]);
 }
 
 fn main() {

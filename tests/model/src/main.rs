@@ -4,7 +4,7 @@ use reference_model::{listing, logarithm, report, scenarios};
 use std::io::{self, BufWriter, Read, Write};
 use std::process::ExitCode;
 
-const USAGE: &str = "usage: model listing|readings|sums|start|brief|entries < scenario
+const USAGE: &str = "usage: model listing|readings|sums|start|brief|entries|runs < scenario
        model entry NUMBER < scenario
        model scenarios SEED COUNT DIRECTORY
        model lambda < lines of 'p q' or 'p q value'";
@@ -30,6 +30,7 @@ fn run(words: &[&str]) -> Result<(), String> {
         ["sums"] => written(report::write_sums(&input()?, &mut out)),
         ["start"] => written(report::write_start(&input()?, &mut out)),
         ["brief"] => written(report::write_brief(&input()?, &mut out)),
+        ["runs"] => written(report::write_runs(&input()?, &mut out)),
         ["entries"] => written(report::write_entries(&input()?, &mut out)),
         ["entry", number] => {
             let number = whole("NUMBER", number)?;

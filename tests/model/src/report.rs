@@ -107,6 +107,20 @@ pub fn write_sums(text: &[u8], out: &mut impl Write) -> io::Result<()> {
     for_each_state(text, out, |heading, body, out| writeln!(out, "{heading} {}", byte_checksum(body)))
 }
 
+/// Runs the entries and writes after each its outcome and the record's checksum.
+pub fn write_runs(text: &[u8], out: &mut impl Write) -> io::Result<()> {
+    let (outcome, mut record) = record::start(text);
+    if outcome.is_err() {
+        return Ok(());
+    }
+    let pumping = text::read(text).expect("start has accepted this text").pumping;
+    for (above, &entry) in pumping.iter().enumerate() {
+        let outcome = value(listing::run_entry(&mut record, entry).map(|()| "taken"));
+        writeln!(out, "after {} {outcome} {}", above + 1, record_checksum(&record))?;
+    }
+    Ok(())
+}
+
 /// Runs the entries and hands over the heading of each state and the lines of its readings.
 fn for_each_state<W: Write>(
     text: &[u8],
