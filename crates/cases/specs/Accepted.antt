@@ -1,9 +1,8 @@
 -- Start accepts bore K, and what record it gives: computed part by part, for the table's proof. Laws only, nothing to believe.
 -- Assumes nothing.
-use mathlib.Core.Path.{_≡_, refl, sym, ap, _∙_}
-use mathlib.Core.Bool.{Bool, true, not, _&&_}
-use mathlib.Core.List.{List, [], _∷_, _++_, dropLast, getLastD, flatMap}
-use Prim.Native.Nat.{ℕ}
+use mathlib.Core.Path.{_≡_, refl, _∙_}
+use mathlib.Core.Bool.{true}
+use mathlib.Core.List.{getLastD, flatMap}
 use Rattle.laws.specs.Refusal.{first, first-after}
 use Rattle.laws.specs.All.{allBelow}
 use Rattle.laws.specs.Every.{every}
@@ -16,19 +15,19 @@ use Rattle.geometry.specs.Geometry.{terms, ratio, logarithm, area, horizontal, 
 use Rattle.site.specs.Site.{isScreened, midsection, layerTop, topmostScreened, storageHolds, layerHolds, layerAt, wellHolds, numbersHold, columnRises, radiiHold, screenHolds}
 use Rattle.sections.specs.Sections.{countOf, sectionOf, restOf, sectionTests, fromColumns, fromWell, fromLoss, fromPumping, leftOver, formTests, field, siteOf, repeatsHold}
 use Rattle.sections.specs.Laws.{form-numbered}
-use Rattle.record.specs.Record.{zeroRecord, outcomeOf, answerOf}
+use Rattle.record.specs.Record.{answerOf}
 use Rattle.slots.specs.Slots.{conductancesHold, storagesHold, coefficientsHold}
 use Rattle.cells.specs.Cells.{logarithmAt, areaAt, acrossOf, downOf, storageOf}
 use Rattle.coefficients.specs.Coefficients.{scenarioGrid, startRecord}
 use Rattle.scenario.specs.Scenario.{scenarioOf, numberTests, textTests, textRefusal, startOf}
 use Rattle.cases.specs.BoreK.{boreK, numbersK}
 
-numbers-K : numbers boreK ≡ numbersK
-unfolding boreK numbersK value prefixed pieces lines numbers dropLast
+pub numbers-K : numbers boreK ≡ numbersK
+unfolding boreK numbersK value prefixed pieces lines numbers
 numbers-K = refl
 
 formed-K : wellFormed boreK ≡ true
-unfolding boreK isDigit noLeadingZero numeral prefixed pieces lines unended wellFormed every dropLast getLastD
+unfolding boreK isDigit noLeadingZero numeral prefixed pieces lines unended wellFormed every getLastD
 formed-K = refl
 
 form-K : first (formTests numbersK) ≡ 0

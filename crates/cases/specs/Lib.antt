@@ -1,3 +1,4 @@
 pub mod Accepted
 pub mod BoreK
+pub mod Steps
 pub mod Table
