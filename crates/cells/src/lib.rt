@@ -67,7 +67,7 @@ pub fn across(site: Site, logarithms: &[u64; 50], i: usize, j: usize) -> u64
     word_of(horizontal(site.thickness[i], site.kh[i], logarithms[j]))
 }
 
-// C of column j between layers i and i + 1, in the same way.
+// C of column j between layers i and i + 1, in the same way: the last column has no such face.
 pub fn down(site: Site, areas: &[u64; 50], i: usize, j: usize) -> u64
     requires { ⌜ Judged site × Areas site (now areas) × (i < 20) ⌝ }
     ensures { λ r. ⌜ r ≡ slotOf (hasBelow site i j) (downOf site i j) ⌝ }
@@ -76,7 +76,8 @@ pub fn down(site: Site, areas: &[u64; 50], i: usize, j: usize) -> u64
     if site.layers as usize <= below {
         return 0;
     }
-    if site.columns as usize <= j {
+    let last = site.columns as usize;
+    if last <= j {
         return 0;
     }
     word_of(vertical(

@@ -4,12 +4,12 @@
 -- Assumes nothing.
 use mathlib.Core.Bool.{cond}
 use mathlib.Core.List.{List, [], _∷_}
-use Prim.Native.Nat.{ℕ, _+_, _-_, _/_, _%_, _<_}
+use Prim.Native.Nat.{ℕ, _+_, _*_, _-_, _/_, _%_, _<_}
 use lib.IntN.{ℤ, pos, negℤ, _+ℤ_, _-ℤ_}
 use lib.Dec.{eqb, leb, ltb}
 use lib.ListN.{getD}
 use Rattle.laws.specs.Sums.{ifℤ, Room}
-use Rattle.network.specs.Limits.{totalLimit}
+use Rattle.network.specs.Limits.{rateLimit, lengthLimit, totalLimit}
 
 -- the water of the face before slot k in its layer: of the well's, for column 1
 unfoldable pub leftAt : List ℤ → List ℤ → ℕ → ℤ
@@ -28,3 +28,7 @@ lossAt columns vs across down screen k =
 -- the sums on the way to it stay between 0 and the largest total
 pub record CellRoom (columns : ℕ) (vs across down screen : List ℤ) (k : ℕ) : Type 0 where
   pub room : k % 50 + 1 < columns → Room totalLimit (getD vs k (pos 0)) (getD across k (pos 0) ∷ getD down k (pos 0) ∷ negℤ (leftAt across screen k) ∷ negℤ (upperAt down k) ∷ [])
+
+-- the most that V of the well comes to in a step: a total, and what the step pumps
+abbrev pub wellLimit : ℕ
+wellLimit = totalLimit + rateLimit * lengthLimit

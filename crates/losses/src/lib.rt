@@ -9,7 +9,7 @@ ghost use lib.ListN.{getD, replicate};
 ghost use Rattle.laws.specs.Fill.{fill};
 ghost use Rattle.laws.specs.Sums.{sumℤ, range, Room};
 ghost use Rattle.network.specs.Limits.{rateLimit, lengthLimit, totalLimit};
-ghost use Rattle.losses.specs.Losses.{leftAt, upperAt, lossAt, CellRoom};
+ghost use Rattle.losses.specs.Losses.{leftAt, upperAt, lossAt, CellRoom, wellLimit};
 
 // Water to slot k from the column before it, which for column 1 is the well.
 fn left<'a>(across: &'a [i64; 1000], screen: &'a [i64; 20], k: usize) -> i64
@@ -87,10 +87,10 @@ pub fn losses_after<'a>(
     out
 }
 
-// V of the well after water has left it for the layers.
+// V of the well, as it is with what is pumped, after water has left it for the layers.
 pub fn with_screen(v: i64, screen: &[i64; 20], layers: usize) -> i64
     requires { ⌜ layers ≤ 20 ⌝ }
-    requires { ⌜ Room totalLimit v (map (λ i. getD (now screen) i (pos 0)) (range 0 layers)) ⌝ }
+    requires { ⌜ Room wellLimit v (map (λ i. getD (now screen) i (pos 0)) (range 0 layers)) ⌝ }
     ensures { λ r. ⌜ r ≡ v +ℤ sumℤ (range 0 layers) (λ i. getD (now (screen .entry)) i (pos 0)) ⌝ }
 {
     let mut sum = v;

@@ -204,8 +204,9 @@ module _ (r : Record) (rate dt : ℕ) where
         unfolding stepRefusal stepTests unstable totalsPass stateOf
         none-forbids q = first-is (skip (ap not (b .passed)) (skip (b .sized) (skip (ap not steady) (skip room (skip (sym well-test ∙ shallow) (skip (sym table-test ∙ q) none))))))
 
-        abbrev next : Record
-        next = record {
+        -- the record that the code makes, with V of the well and the inflow total as the machine reads them back
+        abbrev next : ℤ → ℤ → Record
+        next well inflow = record {
           site = r .site;
           screen = r .screen;
           horizontal = r .horizontal;
@@ -213,17 +214,18 @@ module _ (r : Record) (rate dt : ℕ) where
           storages = r .storages;
           losses = w .losses;
           «well_storage» = r .«well_storage»;
-          «well_loss» = w .«well_loss»;
+          «well_loss» = well;
           pumped = r .pumped + rate * dt;
-          inflow = w .inflow;
+          inflow = inflow;
           time = r .time + dt;
         }
 
-        next-is : next ≡ withState r (moved N s rate dt)
+        next-is : next (w .«well_loss») (w .inflow) ≡ withState r (moved N s rate dt)
         unfolding withState moved stateOf
         next-is = rw (ap (λ x. x .losses) e ∙ worked-losses r v rate dt, well-is, inflow-is)
 
-        pub taken : not (tableWithin (r .site .columns) (getD (r .site .thickness) 0 0) (r .storages) (w .losses)) ≡ false
-            → _≡_ {A = Answer} (record { outcome = Taken; «record» = next }) (stepOf r rate dt)
+        pub taken : {well inflow : ℤ} → well ≡ w .«well_loss» → inflow ≡ w .inflow
+            → not (tableWithin (r .site .columns) (getD (r .site .thickness) 0 0) (r .storages) (w .losses)) ≡ false
+            → _≡_ {A = Answer} (record { outcome = Taken; «record» = next well inflow }) (stepOf r rate dt)
         unfolding stepOf answerOf outcomeOf
-        taken q = rw (← none-forbids q) (ap (λ n. record { outcome = Taken; «record» = n }) next-is)
+        taken p i q = rw (p, i, ← none-forbids q) (ap (λ n. record { outcome = Taken; «record» = n }) next-is)

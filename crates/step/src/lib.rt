@@ -62,13 +62,15 @@ pub fn step(record: Record, rate: u64, dt: u64) -> Answer
         dt,
     );
     let losses = worked.losses;
+    let well_after = worked.well_loss;
+    let inflow_after = worked.inflow;
     let mut next = record;
     next.losses = losses;
-    next.well_loss = worked.well_loss;
+    next.well_loss = well_after;
     next.pumped = record.pumped + rate * dt;
-    next.inflow = worked.inflow;
+    next.inflow = inflow_after;
     next.time = record.time + dt;
-    if stability::well_too_deep(site.intake, well_storage, worked.well_loss) {
+    if stability::well_too_deep(site.intake, well_storage, well_after) {
         return refused(10, record);
     }
     if stability::table_too_deep(columns, thickness, &record.storages, &losses) {

@@ -4,18 +4,20 @@ use mathlib.Core.Path.{_≡_, refl, sym, ap, subst, _∙_}
 use mathlib.Core.List.{List, [], _∷_, map, List·Memᴰ, List·Memᴰ·head, List·Memᴰ·tail}
 use Prim.Native.Nat.{ℕ, _+_, _*_, _-_, _/_, _%_, _≤_, _<_, zero-le}
 use native.Mathlib.Decide.{decLt, ℕ-discrete}
+use native.Mathlib.Nat.{mul-le-mul}
 use native.Mathlib.Omega.{arith}
 use lib.Dec.{leb}
-use lib.IntN.{ℤ, pos, negℤ, _+ℤ_}
+use lib.IntN.{ℤ, pos, negℤ, _+ℤ_, +ℤ-assoc, +ℤ-comm}
 use lib.Signed.{_≤ℤ_}
 use lib.ListN.{length, getD, replicate, length-replicate, length-map, List·getD-map}
 use borrow.Author.Tests.{lt-ltb, le-ltb, eq-eqb, ne-eqb}
 use Rattle.laws.specs.Fill.{fill, length-fill, getD-fill, getD-fill-rest, fill-ext, fill-every, getD-same}
-use Rattle.laws.specs.Integer.{≤ℤ-pos, pos-≤ℤ}
+use Rattle.laws.specs.Integer.{≤ℤ-pos, pos-≤ℤ, natural}
+use Rattle.laws.specs.Signed.{room-up}
 use Rattle.laws.specs.Sums.{ifℤ, sumℤ, range, sumℤ-ext, range-below, Room}
 use Rattle.network.specs.Limits.{totalLimit, drawdownLimit}
-use Rattle.flows.specs.Flows.{depthAt, reducedAt, flowAt, screenAt}
-use Rattle.losses.specs.Losses.{leftAt, upperAt, lossAt, CellRoom}
+use Rattle.flows.specs.Flows.{depthOf, depthAt, reducedAt, flowAt, screenAt}
+use Rattle.losses.specs.Losses.{leftAt, upperAt, lossAt, CellRoom, wellLimit}
 use Rattle.worked.specs.Worked.{Lent, slotCount, depth, wellDepth, conductance, right, lower, fromWell, left, upper, toLast, lossAfter, wellAfter, inflowAfter, workedOf, Workable}
 use Rattle.worked.specs.declared.Worked.{Worked}
 
@@ -27,6 +29,9 @@ module _ (f : ℕ → ℤ) (n m k : ℕ) where
   unfilled : n ≤ k → getD (fill n f (replicate m (pos 0))) k (pos 0) ≡ pos 0
   unfilled h = getD-fill-rest f (replicate m (pos 0)) n k (pos 0) h ∙ getD-same m k (pos 0)
 
++ℤ-last : (x y z : ℤ) → x +ℤ y +ℤ z ≡ x +ℤ z +ℤ y
++ℤ-last x y z = +ℤ-assoc x y z ∙ ap (λ t. x +ℤ t) (+ℤ-comm y z) ∙ sym (+ℤ-assoc x z y)
+
 map-ext : (l : List ℕ) {f g : ℕ → ℤ} → ((i : ℕ) → List·Memᴰ i l → f i ≡ g i) → map f l ≡ map g l
 map-ext [] h = refl
 map-ext (i ∷ l) {f} {g} h = let e : f i ≡ g i = h i (List·Memᴰ·head refl) in let t : map f l ≡ map g l = map-ext l (λ j m. h j (List·Memᴰ·tail m)) in rw (e, t)
@@ -35,10 +40,19 @@ map-ext (i ∷ l) {f} {g} h = let e : f i ≡ g i = h i (List·Memᴰ·head refl
 same-room : (n : ℕ) {limit : ℕ} {v : ℤ} (f g : ℕ → ℤ) → ((i : ℕ) → i < n → f i ≡ g i) → Room limit v (map g (range 0 n)) → Room limit v (map f (range 0 n))
 same-room n {limit} {v} f g h r = subst (λ ts. Room limit v ts) (sym (map-ext (range 0 n) (λ i m. h i (range-below n m)))) r
 
+-- a V that is raised has room for what the lower one had
+raised : {limit : ℕ} {v : ℤ} {ts : List ℤ} (n : ℕ) → Room limit v ts → Room (limit + n) (v +ℤ pos n) ts
+raised {v = v} n r = rw (natural (r .natural)) (record { natural = pos-≤ℤ zero-le; falls = omega (arith, r .falls); rises = omega (arith, r .rises) })
+
 same-sum : (n : ℕ) (f g : ℕ → ℤ) → ((i : ℕ) → i < n → f i ≡ g i) → sumℤ (range 0 n) f ≡ sumℤ (range 0 n) g
 same-sum n f g h = sumℤ-ext (range 0 n) (λ i m. h i (range-below n m))
 
 module _ (a : Lent) (ok : Workable a) where
+  -- V of the well at the start of the step is what its D may be taken of
+  pub well-within : {v : ℤ} → v ≡ a .wellLoss → (pos 0 ≤ℤ v) × (depthOf v (a .wellStorage) ≤ℤ pos drawdownLimit)
+  unfolding wellDepth
+  well-within e = rw e (ok .well)
+
   -- ---- ds: the drawdowns
   module _ (ds : List ℕ) (hd : map pos ds ≡ fill (slotCount a) (depthAt (a .losses) (a .storages)) (replicate 1000 (pos 0))) where
     depth-at : (k : ℕ) → k < slotCount a → pos (getD ds k 0) ≡ depth a k
@@ -134,8 +148,8 @@ module _ (a : Lent) (ok : Workable a) where
     pub cell-room : (k : ℕ) → k < slotCount a → CellRoom (a .columns) (a .losses) across down screen k
     cell-room k u = record { room = λ s. rw (F .rights k (omega (arith, ok .columns)), F .lowers k, left-at k u, upper-at k) (ok .cellRoom k u s) }
 
-    pub well-room : Room totalLimit (a .wellLoss) (map (λ i. getD screen i (pos 0)) (range 0 (a .layers)))
-    well-room = same-room (a .layers) (λ i. getD screen i (pos 0)) (fromWell a) (F .screens) (ok .wellRoom)
+    pub well-room : {v : ℤ} → v ≡ a .wellLoss +ℤ pos (a .rate * a .dt) → Room wellLimit v (map (λ i. getD screen i (pos 0)) (range 0 (a .layers)))
+    well-room e = rw e (same-room (a .layers) (λ i. getD screen i (pos 0)) (fromWell a) (F .screens) (room-up (raised (a .rate * a .dt) (ok .wellRoom)) (omega (arith, mul-le-mul (ok .rate) (ok .dt)))))
 
     pub last-room : Room totalLimit (a .inflow) (map (λ i. negℤ (getD across (50 * i + (a .columns - 2)) (pos 0))) (range 0 (a .layers)))
     last-room = same-room (a .layers) (λ i. negℤ (getD across (50 * i + (a .columns - 2)) (pos 0))) (λ i. negℤ (toLast a i)) last-at (ok .lastRoom)
@@ -151,7 +165,7 @@ module _ (a : Lent) (ok : Workable a) where
     -- so what the parts made is the step's answer
     pub worked-made : {losses : List ℤ} {loss inflow : ℤ}
         → losses ≡ fill (slotCount a) (lossAt (a .columns) (a .losses) across down screen) (replicate 1000 (pos 0))
-        → loss ≡ a .wellLoss +ℤ sumℤ (range 0 (a .layers)) (λ i. getD screen i (pos 0)) +ℤ pos (a .rate * a .dt)
+        → loss ≡ a .wellLoss +ℤ pos (a .rate * a .dt) +ℤ sumℤ (range 0 (a .layers)) (λ i. getD screen i (pos 0))
         → inflow ≡ a .inflow +ℤ sumℤ (range 0 (a .layers)) (λ i. negℤ (getD across (50 * i + (a .columns - 2)) (pos 0)))
         → _≡_ {A = Worked} (record { losses = losses; «well_loss» = loss; inflow = inflow }) (workedOf a)
     unfolding workedOf wellAfter inflowAfter
@@ -161,4 +175,4 @@ module _ (a : Lent) (ok : Workable a) where
         let well : sumℤ (range 0 (a .layers)) (λ i. getD screen i (pos 0)) ≡ sumℤ (range 0 (a .layers)) (fromWell a) = same-sum (a .layers) (λ i. getD screen i (pos 0)) (fromWell a) (F .screens) in
         let last : sumℤ (range 0 (a .layers)) (λ i. negℤ (getD across (50 * i + (a .columns - 2)) (pos 0))) ≡ sumℤ (range 0 (a .layers)) (λ i. negℤ (toLast a i)) =
         same-sum (a .layers) (λ i. negℤ (getD across (50 * i + (a .columns - 2)) (pos 0))) (λ i. negℤ (toLast a i)) last-at in
-        rw (p ∙ cells, q ∙ ap (λ z. a .wellLoss +ℤ z +ℤ pos (a .rate * a .dt)) well, r ∙ ap (λ z. a .inflow +ℤ z) last)
+        rw (p ∙ cells, q ∙ ap (λ z. a .wellLoss +ℤ pos (a .rate * a .dt) +ℤ z) well ∙ +ℤ-last (a .wellLoss) (pos (a .rate * a .dt)) (sumℤ (range 0 (a .layers)) (fromWell a)), r ∙ ap (λ z. a .inflow +ℤ z) last)

@@ -31,6 +31,8 @@ pub fn work_step<'a>(
     ensures { λ r. ⌜ r ≡ workedOf (lent layers columns thickness (now (screen .entry)) (now (horizontal .entry)) (now (vertical .entry)) (now (storages .entry)) (now (losses .entry)) «well_storage» «well_loss» inflow rate dt) ⌝ }
 {
     let cells = 50 * layers;
+    let well_pumped = losses::with_pumped(well_loss, rate, dt);
+    // What is pumped moves the well's V, and not the D that its faces see: that is the one at the start of the step.
     let well = flows::drawdown(well_loss, well_storage);
     let depths = flows::drawdowns(losses, storages, cells);
     let conductances = flows::in_use(horizontal, &depths, thickness, columns - 1);
@@ -38,10 +40,9 @@ pub fn work_step<'a>(
     let down = flows::flows(vertical, &depths, 50, cells - 50, dt);
     let from_well = flows::screen_flows(screen, well, &depths, layers, dt);
     let cell_losses = losses::losses_after(losses, &across, &down, &from_well, columns, cells);
-    let drained = losses::with_screen(well_loss, &from_well, layers);
     Worked {
         losses: cell_losses,
-        well_loss: losses::with_pumped(drained, rate, dt),
+        well_loss: losses::with_screen(well_pumped, &from_well, layers),
         inflow: losses::with_last_column(inflow, &across, columns - 2, layers),
     }
 }

@@ -3,6 +3,7 @@
 
 pub mod checksum;
 pub mod coefficients;
+pub mod damaged;
 pub mod geometry;
 pub mod grid;
 pub mod head_loss;

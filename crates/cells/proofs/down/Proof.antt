@@ -16,7 +16,8 @@ returns c =
 
 returns-2 : tie.Need-returns-2
 returns-2 c =
-    unused _ _ (sym (below-cell _ _ _) ∙ no-column _ _ _ (c .if2 .taken))
+    let at = c .before .before in
+    unused _ _ (sym (below-cell _ _ _) ∙ no-column (at .args .t1) _ (at .args .j) (omega arith))
 
 mul-vertical : tie.Need-mul-vertical
 mul-vertical c = omega arith

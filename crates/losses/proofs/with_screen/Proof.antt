@@ -9,12 +9,12 @@ use mir.Syntax.{w64}
 use mir.Val.{SFits, toZ, ofZ}
 use mir.Facts.{toZ-ofZ}
 use Rattle.laws.specs.Signed.{back, room-fits, Adding, adding-start, adding-more, adding-done}
-use Rattle.network.specs.Limits.{totalLimit}
+use Rattle.losses.specs.Losses.{wellLimit}
 use Rattle.losses.proofs.with_screen.Statement.{statement}
 use Rattle.losses.proofs.with_screen.Tie as tie
 
 abbrev Inv-loop : tie.InvT-loop
-Inv-loop v screen layers sum₀ i₀ sum i = Adding totalLimit (toZ w64 v) (λ j. getD screen j (pos 0)) layers i (toZ w64 sum)
+Inv-loop v screen layers sum₀ i₀ sum i = Adding wellLimit (toZ w64 v) (λ j. getD screen j (pos 0)) layers i (toZ w64 sum)
 
 abbrev μ-loop : tie.MeasureT-loop
 μ-loop v screen layers sum₀ i₀ sum i = layers - i
@@ -22,7 +22,7 @@ abbrev μ-loop : tie.MeasureT-loop
 -- the sum with one layer more
 module _ (c : tie.After-sum Inv-loop μ-loop) where
   more : let s = c .before .before .before in let i = c .before .before .loop .i in
-      Adding totalLimit (toZ w64 (ofZ w64 (s .args .v))) (λ j. getD (now (s .args .screen)) j (pos 0)) (s .args .layers) (i + 1) (toZ w64 (c .before .before .loop .sum) +ℤ getD (now (s .args .screen)) i (pos 0))
+      Adding wellLimit (toZ w64 (ofZ w64 (s .args .v))) (λ j. getD (now (s .args .screen)) j (pos 0)) (s .args .layers) (i + 1) (toZ w64 (c .before .before .loop .sum) +ℤ getD (now (s .args .screen)) i (pos 0))
   more = let s = c .before .before .before in adding-more (λ j. getD (now (s .args .screen)) j (pos 0)) (c .before .before .loop .inv) (c .before .loop-test .taken)
 
   more-fits : let s = c .before .before .before in let i = c .before .before .loop .i in SFits w64 (toZ w64 (c .before .before .loop .sum) +ℤ getD (now (s .args .screen)) i (pos 0))

@@ -1,10 +1,12 @@
 -- `step::step` meets its contract: at each return the tests on the way give the definition's answer. Assumes nothing.
-use mathlib.Core.Path.{_≡_, sym, _∙_}
+use mathlib.Core.Path.{_≡_, sym, ap, _∙_}
 use mathlib.Core.Bool.{true, false}
-use Prim.Native.Nat.{_*_}
+use Prim.Native.Nat.{ℕ, _*_}
+use lib.IntN.{ℤ}
 use borrow.Author.Needs.{needs}
 use borrow.Author.Tests.{not-true, not-false}
 use Rattle.network.specs.Network.{rateOrLengthOut}
+use Rattle.record.specs.declared.Record.{Record}
 use Rattle.validity.specs.Validity.{valid}
 use Rattle.stability.specs.Judged.{deeper}
 use Rattle.worked.specs.Worked.{workedOf}
@@ -27,11 +29,43 @@ begun c = record { passed = passed (c .before .before .before .before .before .b
 roomy : (c : tie.Else4) → full (c .before .before .before .before .before .before .before .before .before .before .before .before .before .before .args .t1) (c .before .before .before .before .before .before .before .before .before .before .before .before .before .before .args .rate) (c .before .before .before .before .before .before .before .before .before .before .before .before .before .before .args .dt) ≡ false
 roomy c = sym (c .before .totals-pass .ensures) ∙ c .if4 .left
 
-worked : (c : tie.After-work-step) → c .work-step .result ≡ workedOf (lentOf (c .before .before .before .before .before .before .before .before .before .before .before .before .before .before .before .before .before .before .before .before .before .before .before .before .args .t1) (c .before .before .before .before .before .before .before .before .before .before .before .before .before .before .before .before .before .before .before .before .before .before .before .before .args .rate) (c .before .before .before .before .before .before .before .before .before .before .before .before .before .before .before .before .before .before .before .before .before .before .before .before .args .dt))
-worked c = rw (well-back _ _ _ (begun (c .before .before .before .before .before .before .before .before .before .before .before .before)), inflow-back _ _ _ (begun (c .before .before .before .before .before .before .before .before .before .before .before .before))) at (c .work-step .ensures)
+-- ---- the step is worked
 
-shallow : (c : tie.Else5) → deeper (1000 * c .before .before .before .before .before .before .before .before .before .before .before .before .before .before .before .before .before .before .before .before .before .before .before .before .before .before .before .before .before .before .args .t1 .site .intake) (c .before .before .before .before .before .before .before .before .before .before .before .before .before .before .before .before .before .before .before .before .before .before .before .before .before .before .before .before .before .before .args .t1 .«well_storage») (c .before .before .before .before .before .before .work-step .result .«well_loss») ≡ false
-shallow c = sym (rw (well-after-back _ _ _ (begun (c .before .before .before .before .before .before .before .before .before .before .before .before .before .before .before .before .before .before)) _ (worked (c .before .before .before .before .before .before)) (roomy (c .before .before .before .before .before .before .before .before .before .before .before .before .before .before .before .before))) at (c .before .well-too-deep .ensures)) ∙ c .if5 .left
+-- where 8 and 9 have let it pass, and the arguments
+abbrev calmed : tie.After-work-step → tie.Else3
+calmed c = c .before .before .before .before .before .before .before .before .before .before .before .before
+
+abbrev counted : tie.After-work-step → tie.Else4
+counted c = c .before .before .before .before .before .before .before .before .before .before
+
+abbrev held : tie.After-work-step → Record
+held c = c .before .before .before .before .before .before .before .before .before .before .before .before .before .before .before .before .before .before .before .before .before .before .before .before .args .t1
+
+abbrev rated : tie.After-work-step → ℕ
+rated c = c .before .before .before .before .before .before .before .before .before .before .before .before .before .before .before .before .before .before .before .before .before .before .before .before .args .rate
+
+abbrev lasting : tie.After-work-step → ℕ
+lasting c = c .before .before .before .before .before .before .before .before .before .before .before .before .before .before .before .before .before .before .before .before .before .before .before .before .args .dt
+
+worked : (c : tie.After-work-step) → c .work-step .result ≡ workedOf (lentOf (held c) (rated c) (lasting c))
+worked c = rw (well-back _ _ _ (begun (calmed c)), inflow-back _ _ _ (begun (calmed c))) at (c .work-step .ensures)
+
+-- the place after it from those further on
+abbrev from-next : tie.After-struct-told4 → tie.After-work-step
+from-next c = c .before .before .before
+
+abbrev from-shallow : tie.Else5 → tie.After-work-step
+from-shallow c = from-next (c .before .before)
+
+-- 10 judged on V of the well after the step, as the machine reads it back
+judged : (c : tie.After-work-step) {z : ℤ} → z ≡ c .work-step .result .«well_loss»
+    → deeper (1000 * held c .site .intake) (held c .«well_storage») z ≡ deeper (1000 * held c .site .intake) (held c .«well_storage») (c .work-step .result .«well_loss»)
+judged c e = ap (deeper (1000 * held c .site .intake) (held c .«well_storage»)) e
+
+shallow : (c : tie.Else5) → deeper (1000 * held (from-shallow c) .site .intake) (held (from-shallow c) .«well_storage») (from-shallow c .work-step .result .«well_loss») ≡ false
+shallow c =
+    let at = from-shallow c in
+    sym (c .before .well-too-deep .ensures ∙ judged at (well-after-back _ _ _ (begun (calmed at)) _ (worked at) (roomy (counted at)))) ∙ c .if5 .left
 
 -- ---- the answers
 
@@ -78,49 +112,52 @@ work-step-requires : tie.Need-work-step-requires
 work-step-requires c κs = rw (well-back _ _ _ (begun (c .before .before .before .before .before .before .before .before .before .before .before)), inflow-back _ _ _ (begun (c .before .before .before .before .before .before .before .before .before .before .before))) (work-asks _ _ _ (begun (c .before .before .before .before .before .before .before .before .before .before .before)))
 
 mul-next : tie.Need-mul-next
-mul-next c = record { fits = pumped-fits _ _ _ (begun (c .before .before .before .before .before .before .before .before .before .before .before .before .before .before)) .1 }
+mul-next c = record { fits = pumped-fits _ _ _ (begun (calmed (from-next c))) .1 }
 
 add-next : tie.Need-add-next
-add-next c = record { fits = pumped-fits _ _ _ (begun (c .before .before .before .before .before .before .before .before .before .before .before .before .before .before)) .0 }
+add-next c = record { fits = pumped-fits _ _ _ (begun (calmed (from-next c))) .0 }
 
 add-next-2 : tie.Need-add-next-2
-add-next-2 c = record { fits = pumped-fits _ _ _ (begun (c .before .before .before .before .before .before .before .before .before .before .before .before .before .before .before)) .2 }
+add-next-2 c = record { fits = pumped-fits _ _ _ (begun (calmed (from-next c))) .2 }
 
 well-too-deep-requires : tie.Need-well-too-deep-requires
 well-too-deep-requires c κs =
-    let b = begun (c .before .before .before .before .before .before .before .before .before .before .before .before .before .before .before .before) in
-    let e = worked (c .before .before .before .before) in
-    let room = roomy (c .before .before .before .before .before .before .before .before .before .before .before .before .before .before) in
-    rw (well-after-back _ _ _ b _ e room) (well-asks _ _ _ b _ e room)
+    let at = from-next c in
+    let b = begun (calmed at) in
+    let room = roomy (counted at) in
+    rw (well-after-back _ _ _ b _ (worked at) room) (well-asks _ _ _ b _ (worked at) room)
 
 refused-requires-5 : tie.Need-refused-requires-5
 refused-requires-5 c κs = tt
 
 returns-5 : tie.Need-returns-5
 returns-5 c =
-    let b = begun (c .before .before .before .before .before .before .before .before .before .before .before .before .before .before .before .before .before .before .before) in
-    let e = worked (c .before .before .before .before .before .before .before) in
-    let room = roomy (c .before .before .before .before .before .before .before .before .before .before .before .before .before .before .before .before .before) in
-    c .refused5 .ensures ∙ refused-10 _ _ _ b _ e room (sym (rw (well-after-back _ _ _ b _ e room) at (c .before .before .well-too-deep .ensures)) ∙ c .before .if5 .taken)
+    let at = from-next (c .before .before .before) in
+    let b = begun (calmed at) in
+    let room = roomy (counted at) in
+    c .refused5 .ensures
+    ∙ refused-10 _ _ _ b _ (worked at) room (sym (c .before .before .well-too-deep .ensures ∙ judged at (well-after-back _ _ _ b _ (worked at) room)) ∙ c .before .if5 .taken)
 
 table-too-deep-requires : tie.Need-table-too-deep-requires
-table-too-deep-requires c κs = table-asks _ _ _ (begun (c .before .before .before .before .before .before .before .before .before .before .before .before .before .before .before .before .before .before .before .before .before)) _ (worked (c .before .before .before .before .before .before .before .before .before)) (roomy (c .before .before .before .before .before .before .before .before .before .before .before .before .before .before .before .before .before .before .before))
+table-too-deep-requires c κs =
+    let at = from-shallow (c .before .before .before) in
+    table-asks _ _ _ (begun (calmed at)) _ (worked at) (roomy (counted at))
 
 refused-requires-6 : tie.Need-refused-requires-6
 refused-requires-6 c κs = tt
 
 returns-6 : tie.Need-returns-6
 returns-6 c =
+    let at = from-shallow (c .before .before .before .before .before .before) in
     c .refused6 .ensures
-    ∙ refused-11 _ _ _ (begun (c .before .before .before .before .before .before .before .before .before .before .before .before .before .before .before .before .before .before .before .before .before .before .before .before)) _ (worked (c .before .before .before .before .before .before .before .before .before .before .before .before)) (roomy (c .before .before .before .before .before .before .before .before .before .before .before .before .before .before .before .before .before .before .before .before .before .before)) (shallow (c .before .before .before .before .before .before)) (sym (c .before .before .table-too-deep .ensures) ∙ c .before .if6 .taken)
+    ∙ refused-11 _ _ _ (begun (calmed at)) _ (worked at) (roomy (counted at)) (shallow (c .before .before .before .before .before .before)) (sym (c .before .before .table-too-deep .ensures) ∙ c .before .if6 .taken)
 
 returns-7 : tie.Need-returns-7
 returns-7 c =
-    let b = begun (c .before .before .before .before .before .before .before .before .before .before .before .before .before .before .before .before .before .before .before .before .before .before .before) in
-    let e = worked (c .before .before .before .before .before .before .before .before .before .before .before) in
-    let room = roomy (c .before .before .before .before .before .before .before .before .before .before .before .before .before .before .before .before .before .before .before .before .before) in
-    rw (well-after-back _ _ _ b _ e room, inflow-after-back _ _ _ b _ e room)
-    (taken _ _ _ b _ e room (shallow (c .before .before .before .before .before)) (sym (c .before .table-too-deep .ensures) ∙ c .if6 .left))
+    let at = from-shallow (c .before .before .before .before .before) in
+    let b = begun (calmed at) in
+    let room = roomy (counted at) in
+    taken _ _ _ b _ (worked at) room (shallow (c .before .before .before .before .before)) (well-after-back _ _ _ b _ (worked at) room) (inflow-after-back _ _ _ b _ (worked at) room) (sym (c .before .table-too-deep .ensures) ∙ c .if6 .left)
 
 pub step-spec : {M : Type 1} → statement M
 step-spec =

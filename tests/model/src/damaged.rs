@@ -1,0 +1,301 @@
+//! A step of records in which one number, or the few that go with it, is changed: every condition of 14 broken just barely beside its
+//! nearest allowed neighbour, and 9 by the pumped total and by the time. The changes are chosen for bore K.
+
+use crate::checksum::record_checksum;
+use crate::grid::slot;
+use crate::listing;
+use crate::record::{self, Record};
+use crate::refusal::Refusal;
+use crate::step;
+use crate::text;
+use std::io::{self, Write};
+
+/// The step that is tried: ml/s and µs.
+const RATE: u64 = 1000;
+const LENGTH: u64 = 500_000;
+
+type Change = fn(&mut Record);
+
+/// Of a text the outcome of the step, unchanged and with each change, from the record that its first entry leaves.
+pub fn write(text: &[u8], out: &mut impl Write) -> io::Result<()> {
+    let (outcome, mut record) = record::start(text);
+    if let Err(refusal) = outcome {
+        return writeln!(out, "scenario {refusal}");
+    }
+    if let Ok(entry) = text::pumping_entry(text, 1) {
+        // What a refused step leaves is the record to change.
+        let _ = listing::run_entry(&mut record, entry);
+    }
+    write_step("unchanged", record.clone(), out)?;
+    for (name, changes) in GROUPS {
+        for (above, change) in changes.iter().enumerate() {
+            let mut changed = record.clone();
+            change(&mut changed);
+            write_step(&format!("{name} {}", above + 1), changed, out)?;
+        }
+    }
+    Ok(())
+}
+
+/// `NAME taken CHECKSUM`, or `NAME refused NUMBER` with the record's checksum unless the number is 14.
+fn write_step(name: &str, mut record: Record, out: &mut impl Write) -> io::Result<()> {
+    match step::step(&mut record, RATE, LENGTH) {
+        Ok(()) => writeln!(out, "{name} taken {}", record_checksum(&record)),
+        Err(Refusal::Record) => writeln!(out, "{name} refused {}", Refusal::Record),
+        Err(refusal) => writeln!(out, "{name} refused {refusal} {}", record_checksum(&record)),
+    }
+}
+
+const GROUPS: [(&str, &[Change]); 10] = [
+    ("counts", &COUNTS),
+    ("layers", &LAYER_NUMBERS),
+    ("numbers", &NUMBERS),
+    ("unused", &UNUSED),
+    ("well", &WELL),
+    ("conductances", &CONDUCTANCES),
+    ("storages", &STORAGES),
+    ("sums", &SUMS),
+    ("totals", &TOTALS),
+    ("depths", &DEPTHS),
+];
+
+const COUNTS: [Change; 16] = [
+    |record| record.layers = 1,
+    |record| record.layers = 2,
+    |record| record.layers = 3,
+    |record| record.layers = 20,
+    |record| record.layers = 21,
+    |record| record.layers = u64::MAX,
+    |record| record.columns = 1,
+    |record| record.columns = 2,
+    |record| record.columns = 3,
+    |record| record.columns = 50,
+    |record| record.columns = 51,
+    |record| record.columns = u64::MAX,
+    |record| record.screen_loss_count = 1,
+    |record| record.screen_loss_count = 2,
+    |record| record.screen_loss_count = 3,
+    |record| record.screen_loss_count = u64::MAX,
+];
+
+/// Limits of the layers' numbers.
+const LAYER_NUMBERS: [Change; 21] = [
+    |record| record.thickness[0] = 1_000_000,
+    |record| record.thickness[0] = 1_000_001,
+    |record| record.thickness[1] = 0,
+    |record| record.thickness[1] = 1,
+    |record| record.thickness[1] = 1_000_000,
+    |record| record.thickness[1] = 1_000_001,
+    |record| record.screened[1] = 2,
+    |record| record.horizontal[0] = 0,
+    |record| record.horizontal[0] = 100_000_000,
+    |record| record.horizontal[0] = 100_000_001,
+    |record| record.vertical[1] = 0,
+    |record| record.vertical[1] = 100_000_000,
+    |record| record.vertical[1] = 100_000_001,
+    |record| record.storage[0] = 0,
+    |record| record.storage[0] = 1,
+    |record| record.storage[0] = 100_000_000,
+    |record| record.storage[0] = 100_000_001,
+    |record| record.storage[1] = 0,
+    |record| record.storage[1] = 1,
+    |record| record.storage[1] = 1_000_000,
+    |record| record.storage[1] = 1_000_001,
+];
+
+/// Limits of the radii and of the well's numbers; rules 4 and 5.
+const NUMBERS: [Change; 25] = [
+    |record| record.radii[49] = 2_000_000,
+    |record| record.radii[49] = 2_000_001,
+    |record| record.well_radius = 9,
+    |record| record.well_radius = 10,
+    |record| record.well_radius = 5000,
+    |record| record.well_radius = 5001,
+    |record| record.intake_depth = 0,
+    |record| record.intake_depth = 1,
+    |record| record.intake_depth = 1_000_000,
+    |record| record.intake_depth = 1_000_001,
+    |record| record.friction = 0,
+    |record| record.friction = 1_000_000,
+    |record| record.friction = 1_000_001,
+    |record| record.well_radius = 99,
+    |record| record.well_radius = 101,
+    |record| record.radii[0] = 499,
+    |record| record.radii[0] = 501,
+    |record| record.radii[1] = 500,
+    |record| record.radii[1] = 501,
+    |record| record.radii[1] = 1300,
+    |record| record.radii[1] = 1301,
+    |record| record.intake_depth = 9999,
+    |record| record.intake_depth = 10_000,
+    |record| record.screened[0] = 1,
+    |record| record.screened[1] = 0,
+];
+
+/// Slots of the scenario's numbers that no layer, column or coefficient uses.
+const UNUSED: [Change; 14] = [
+    |record| record.thickness[2] = 1,
+    |record| record.thickness[19] = 1,
+    |record| record.screened[2] = 1,
+    |record| record.screened[19] = 1,
+    |record| record.horizontal[2] = 1,
+    |record| record.horizontal[19] = 1,
+    |record| record.vertical[2] = 1,
+    |record| record.vertical[19] = 1,
+    |record| record.storage[2] = 1,
+    |record| record.storage[19] = 1,
+    |record| record.radii[2] = 1,
+    |record| record.radii[49] = 1,
+    |record| record.screen_losses[0] = 1,
+    |record| record.screen_losses[1] = 1,
+];
+
+/// The free water area with the S that goes with it, that S alone; no screened layer and so no C at the well; a second coefficient.
+const WELL: [Change; 10] = [
+    |record| (record.water_area, record.well_s) = (0, 0),
+    |record| (record.water_area, record.well_s) = (1, 1_000_000),
+    |record| (record.water_area, record.well_s) = (1_000_000_000, 1_000_000_000_000_000),
+    |record| (record.water_area, record.well_s) = (1_000_000_001, 1_000_000_001_000_000),
+    |record| (record.water_area, record.well_s) = (30_000, 29_999_999_999),
+    |record| (record.water_area, record.well_s) = (30_000, 30_000_000_000),
+    |record| (record.water_area, record.well_s) = (30_000, 30_000_000_001),
+    |record| (record.screened[1], record.well_c[1]) = (0, 0),
+    |record| (record.screen_loss_count, record.screen_losses[1]) = (2, 1_000_000_000_000),
+    |record| (record.screen_loss_count, record.screen_losses[1]) = (2, 1_000_000_000_001),
+];
+
+/// C in its limits, then in slots of layers without screen, of the last column, of no layer, and below the deepest one.
+const CONDUCTANCES: [Change; 22] = [
+    |record| record.well_c[1] = 0,
+    |record| record.well_c[1] = 1_000_000_000_000_000,
+    |record| record.well_c[1] = 1_000_000_000_000_001,
+    |record| record.well_c[1] = u64::MAX,
+    |record| record.across_c[slot(1, 1)] = 0,
+    |record| record.across_c[slot(1, 1)] = 1_000_000_000_000_000,
+    |record| record.across_c[slot(1, 1)] = 1_000_000_000_000_001,
+    |record| record.across_c[slot(2, 1)] = u64::MAX,
+    |record| record.down_c[slot(1, 1)] = 0,
+    |record| record.down_c[slot(1, 1)] = 1_000_000_000_000_000,
+    |record| record.down_c[slot(1, 1)] = 1_000_000_000_000_001,
+    |record| record.down_c[slot(1, 1)] = u64::MAX,
+    |record| record.well_c[0] = 1,
+    |record| record.well_c[2] = 1,
+    |record| record.well_c[19] = 1,
+    |record| record.across_c[slot(1, 2)] = 1,
+    |record| record.across_c[slot(3, 1)] = 1,
+    |record| record.across_c[slot(20, 50)] = 1,
+    |record| record.down_c[slot(1, 2)] = 1,
+    |record| record.down_c[slot(2, 1)] = 1,
+    |record| record.down_c[slot(3, 1)] = 1,
+    |record| record.down_c[slot(20, 50)] = 1,
+];
+
+/// S in its limits, then in slots of the last column and of no layer.
+const STORAGES: [Change; 11] = [
+    |record| record.cell_s[slot(1, 1)] = 0,
+    |record| record.cell_s[slot(1, 1)] = 1,
+    |record| record.cell_s[slot(1, 1)] = 1_000_000_000_000_000_000,
+    |record| record.cell_s[slot(1, 1)] = 1_000_000_000_000_000_001,
+    |record| record.cell_s[slot(2, 1)] = 0,
+    |record| record.cell_s[slot(2, 1)] = 1,
+    |record| record.cell_s[slot(2, 1)] = 1_000_000_000_000_000_000,
+    |record| record.cell_s[slot(2, 1)] = 1_000_000_000_000_000_001,
+    |record| record.cell_s[slot(1, 2)] = 1,
+    |record| record.cell_s[slot(3, 1)] = 1,
+    |record| record.cell_s[slot(20, 50)] = 1,
+];
+
+/// V of the well and of column 1 of layers 1 and 2, inflow and pumped total; no time.
+fn set_losses(record: &mut Record, well: i64, upper: i64, lower: i64, inflow: i64, pumped: u64) {
+    record.well_loss = well;
+    record.cell_loss[slot(1, 1)] = upper;
+    record.cell_loss[slot(2, 1)] = lower;
+    record.inflow = inflow;
+    record.pumped = pumped;
+    record.time = 0;
+}
+
+/// Losses and inflow that do not add up, are negative, or stand in a slot that no cell uses.
+const SUMS: [Change; 18] = [
+    |record| set_losses(record, 10, 20, 30, 40, 100),
+    |record| set_losses(record, 10, 20, 30, 40, 99),
+    |record| set_losses(record, 10, 20, 30, 40, 101),
+    |record| set_losses(record, 11, 20, 30, 40, 100),
+    |record| set_losses(record, 10, 21, 30, 40, 100),
+    |record| set_losses(record, 10, 20, 31, 40, 100),
+    |record| set_losses(record, 10, 20, 30, 41, 100),
+    |record| set_losses(record, 0, 0, 0, 0, 0),
+    |record| set_losses(record, -1, 0, 0, 1, 0),
+    |record| set_losses(record, 1, -1, 0, 0, 0),
+    |record| set_losses(record, 1, 0, -1, 0, 0),
+    |record| set_losses(record, 1, 0, 0, -1, 0),
+    |record| set_losses(record, 0, 0, 0, i64::MIN, 0),
+    // These add up to 2^64.
+    |record| set_losses(record, i64::MAX, 2, 0, i64::MAX, 0),
+    |record| {
+        set_losses(record, 0, 0, 0, 0, 1);
+        record.cell_loss[slot(1, 2)] = 1;
+    },
+    |record| {
+        set_losses(record, 0, 0, 0, 1, 0);
+        record.cell_loss[slot(1, 2)] = -1;
+    },
+    |record| {
+        set_losses(record, 0, 0, 0, 0, 1);
+        record.cell_loss[slot(3, 1)] = 1;
+    },
+    |record| {
+        set_losses(record, 0, 0, 0, 0, 1);
+        record.cell_loss[slot(20, 50)] = 1;
+    },
+];
+
+/// All that was pumped came from the last column.
+fn set_totals(record: &mut Record, pumped: u64, time: u64) {
+    set_losses(record, 0, 0, 0, pumped as i64, pumped);
+    record.time = time;
+}
+
+/// Pumped total and time at their limit, and where the step that is tried brings them there.
+const TOTALS: [Change; 8] = [
+    |record| set_totals(record, 4_000_000_000_000_000_000, 0),
+    |record| set_totals(record, 4_000_000_000_000_000_001, 0),
+    |record| set_totals(record, 3_999_999_999_500_000_000, 0),
+    |record| set_totals(record, 3_999_999_999_500_000_001, 0),
+    |record| set_totals(record, 0, 4_000_000_000_000_000_000),
+    |record| set_totals(record, 0, 4_000_000_000_000_000_001),
+    |record| set_totals(record, 0, 3_999_999_999_999_500_000),
+    |record| set_totals(record, 0, 3_999_999_999_999_500_001),
+];
+
+/// S of column 1 of layers 1 and 2.
+fn set_storages(record: &mut Record, upper: u64, lower: u64) {
+    record.cell_s[slot(1, 1)] = upper;
+    record.cell_s[slot(2, 1)] = lower;
+}
+
+/// D of the well, of layer 1 and of layer 2 at bore K's bounds, and one that no word holds.
+const DEPTHS: [Change; 7] = [
+    |record| set_losses(record, 299_970_029_999, 0, 0, 0, 299_970_029_999),
+    |record| set_losses(record, 299_970_030_000, 0, 0, 0, 299_970_030_000),
+    |record| {
+        set_storages(record, 1_000_000, 1_000_000);
+        set_losses(record, 0, 10_000_000, 0, 0, 10_000_000);
+    },
+    |record| {
+        set_storages(record, 1_000_000, 1_000_000);
+        set_losses(record, 0, 10_000_001, 0, 0, 10_000_001);
+    },
+    |record| {
+        set_storages(record, 1_000_000, 1_000_000);
+        set_losses(record, 0, 0, 1_000_000_000, 0, 1_000_000_000);
+    },
+    |record| {
+        set_storages(record, 1_000_000, 1_000_000);
+        set_losses(record, 0, 0, 1_000_000_001, 0, 1_000_000_001);
+    },
+    |record| {
+        set_storages(record, 1_000_000, 1);
+        set_losses(record, 0, 0, 4_000_000_000_000_000_000, 0, 4_000_000_000_000_000_000);
+    },
+];
