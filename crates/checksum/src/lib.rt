@@ -121,7 +121,7 @@ fn with_across<'a>(
 }
 
 // A loss or an inflow; none is negative in a valid record.
-fn unsigned(v: i64) -> u64 {
+pub fn unsigned(v: i64) -> u64 {
     if v < 0 { 0 } else { v as u64 }
 }
 

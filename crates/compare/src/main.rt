@@ -87,28 +87,21 @@ fn run(start: Record, entry: Entry) -> Ran {
     }
 }
 
-fn print_run(number: u64, ran: Ran) {
+fn print_heading(number: u64, refusal: u64) {
     io::write_all(STDOUT_FILENO, b"after");
     print_word(number);
-    if ran.refusal == 0 {
+    if refusal == 0 {
         io::write_all(STDOUT_FILENO, b" taken");
     } else {
         io::write_all(STDOUT_FILENO, b" refused");
-        print_word(ran.refusal);
+        print_word(refusal);
     }
-    let rec = ran.record;
-    print_word(checksum::checksum_of(rec));
     print_line_end();
 }
 
-// The pumping entries, one after the other, each from the record that the one before it left.
-fn print_runs(text: &[u8]) {
-    let answer = scenario::start(text);
-    let outcome = answer.outcome;
-    if let Outcome::Refused(_) = outcome {
-        return;
-    }
-    let mut rec = answer.record;
+// The pumping entries, one after the other, each from the record that the one before it left, and the readings after each.
+fn print_entries_run(text: &[u8], start: Record) {
+    let mut rec = start;
     let mut number: u64 = 1;
     while number <= 500 {
         let found = scenario::pumping_entry(text, number);
@@ -116,10 +109,31 @@ fn print_runs(text: &[u8]) {
             return;
         };
         let ran = run(rec, entry);
-        print_run(number, ran);
+        print_heading(number, ran.refusal);
         let after = ran.record;
+        report::print_readings(after, rec, start, entry.length);
         rec = after;
         number += 1;
+    }
+}
+
+// Every reading at the start, for a length of 1 µs, and after each entry.
+fn print_states(text: &[u8]) {
+    let answer = scenario::start(text);
+    let outcome = answer.outcome;
+    let start = answer.record;
+    match outcome {
+        Outcome::Refused(number) => {
+            io::write_all(STDOUT_FILENO, b"scenario");
+            print_word(number);
+            print_line_end();
+        }
+        Outcome::Taken => {
+            print_heading(0, 0);
+            report::print_refused_readings(start);
+            report::print_readings(start, start, start, 1);
+            print_entries_run(text, start);
+        }
     }
 }
 
@@ -140,7 +154,7 @@ fn compare(i: usize) {
     libc::close(file);
     print_start(&text[..got]);
     print_entries(&text[..got]);
-    print_runs(&text[..got]);
+    print_states(&text[..got]);
 }
 
 fn main() {

@@ -1,10 +1,10 @@
 //! The command `model`: what the reference model says of a scenario on standard input.
 
-use reference_model::{listing, logarithm, report, scenarios};
+use reference_model::{damaged, listing, logarithm, report, scenarios};
 use std::io::{self, BufWriter, Read, Write};
 use std::process::ExitCode;
 
-const USAGE: &str = "usage: model listing|readings|sums|start|brief|entries|runs < scenario
+const USAGE: &str = "usage: model listing|readings|heads|sums|start|brief|entries|runs|damaged < scenario
        model entry NUMBER < scenario
        model scenarios SEED COUNT DIRECTORY
        model lambda < lines of 'p q' or 'p q value'";
@@ -27,10 +27,12 @@ fn run(words: &[&str]) -> Result<(), String> {
     match words {
         ["listing"] => written(listing::write(&input()?, &mut out)),
         ["readings"] => written(report::write_readings(&input()?, &mut out)),
+        ["heads"] => written(report::write_heads(&input()?, &mut out)),
         ["sums"] => written(report::write_sums(&input()?, &mut out)),
         ["start"] => written(report::write_start(&input()?, &mut out)),
         ["brief"] => written(report::write_brief(&input()?, &mut out)),
         ["runs"] => written(report::write_runs(&input()?, &mut out)),
+        ["damaged"] => written(damaged::write(&input()?, &mut out)),
         ["entries"] => written(report::write_entries(&input()?, &mut out)),
         ["entry", number] => {
             let number = whole("NUMBER", number)?;

@@ -94,17 +94,24 @@ pub fn write_entries(text: &[u8], out: &mut impl Write) -> io::Result<()> {
 }
 
 /// Runs the entries and writes every reading at the start (as entry 0, for a length of 1 µs) and after each entry.
-pub fn write_readings<W: Write>(text: &[u8], out: &mut W) -> io::Result<()> {
-    let write = |heading: &str, body: &[u8], out: &mut W| {
-        writeln!(out, "{heading}")?;
-        out.write_all(body)
-    };
-    for_each_state(text, out, write)
+pub fn write_readings(text: &[u8], out: &mut impl Write) -> io::Result<()> {
+    for_each_state(text, out, write_refused_readings, write_state, write_whole)
+}
+
+/// A state's heading and its lines.
+fn write_whole<W: Write>(heading: &str, body: &[u8], out: &mut W) -> io::Result<()> {
+    writeln!(out, "{heading}")?;
+    out.write_all(body)
 }
 
 /// The same states in one line each: the heading and the checksum of the bytes that `write_readings` prints below it.
 pub fn write_sums(text: &[u8], out: &mut impl Write) -> io::Result<()> {
-    for_each_state(text, out, |heading, body, out| writeln!(out, "{heading} {}", byte_checksum(body)))
+    for_each_state(text, out, write_refused_readings, write_state, write_sum)
+}
+
+/// A state's heading and the checksum of its lines.
+fn write_sum<W: Write>(heading: &str, body: &[u8], out: &mut W) -> io::Result<()> {
+    writeln!(out, "{heading} {}", byte_checksum(body))
 }
 
 /// Runs the entries and writes after each its outcome and the record's checksum.
@@ -121,10 +128,13 @@ pub fn write_runs(text: &[u8], out: &mut impl Write) -> io::Result<()> {
     Ok(())
 }
 
-/// Runs the entries and hands over the heading of each state and the lines of its readings.
+/// Runs the entries and hands over the heading of each state and its lines: `write_first` makes those that only the
+/// start has, `write_state` those of a record, with the one before, the start and a length.
 fn for_each_state<W: Write>(
     text: &[u8],
     out: &mut W,
+    write_first: impl Fn(&Record, &mut Vec<u8>) -> io::Result<()>,
+    write_state: impl Fn(&Record, &Record, &Record, u64, &mut Vec<u8>) -> io::Result<()>,
     write: impl Fn(&str, &[u8], &mut W) -> io::Result<()>,
 ) -> io::Result<()> {
     let (outcome, start) = record::start(text);
@@ -132,7 +142,7 @@ fn for_each_state<W: Write>(
         return writeln!(out, "scenario {refusal}");
     }
     let mut body = Vec::new();
-    write_refused_readings(&start, &mut body)?;
+    write_first(&start, &mut body)?;
     write_state(&start, &start, &start, 1, &mut body)?;
     write("after 0 taken", &body, out)?;
     let mut record = start.clone();
@@ -147,8 +157,8 @@ fn for_each_state<W: Write>(
     Ok(())
 }
 
-/// Every reading of a record; flows and head losses for a length (µs) not taken.
-fn write_state(record: &Record, before: &Record, start: &Record, length: u64, out: &mut impl Write) -> io::Result<()> {
+/// Every reading of a record in whole numbers; flows for a length (µs) not taken.
+fn write_state(record: &Record, before: &Record, start: &Record, length: u64, out: &mut Vec<u8>) -> io::Result<()> {
     writeln!(out, "time {}", record.time)?;
     let budget = readings::budget(record).expect("a run from start keeps an allowed record");
     writeln!(out, "budget {} {} {} {}", budget.pumped, budget.well_loss, budget.cell_loss, budget.inflow)?;
@@ -166,8 +176,25 @@ fn write_state(record: &Record, before: &Record, start: &Record, length: u64, ou
         let flow = readings::flow(record, cell(layer, 1), Place::Well, length);
         writeln!(out, "length {length} {}", value(flow))?;
     }
-    for layer in screened_layers(record) {
-        writeln!(out, "head {length} {layer} {}", head_figures(record, layer as u64, length))?;
+    Ok(())
+}
+
+/// Runs the entries and writes the head losses of every screened layer at the start, for a length of 1 µs, and after each
+/// entry for its length.
+pub fn write_heads(text: &[u8], out: &mut impl Write) -> io::Result<()> {
+    let write_state = |record: &Record, _: &Record, _: &Record, length, body: &mut Vec<u8>| {
+        for layer in screened_layers(record) {
+            writeln!(body, "head {length} {layer} {}", head_figures(record, layer as u64, length))?;
+        }
+        Ok(())
+    };
+    for_each_state(text, out, write_refused_heads, write_state, write_whole)
+}
+
+/// Layers that 12 refuses, before any length is judged.
+fn write_refused_heads(record: &Record, out: &mut Vec<u8>) -> io::Result<()> {
+    for layer in [0, 1, record.layers + 1, u64::MAX] {
+        writeln!(out, "no screen {}", head_figures(record, layer, 0))?;
     }
     Ok(())
 }
@@ -263,7 +290,7 @@ fn write_flows(record: &Record, length: u64, out: &mut impl Write) -> io::Result
 }
 
 /// Readings that 12 refuses, before any length is judged.
-fn write_refused_readings(record: &Record, out: &mut impl Write) -> io::Result<()> {
+fn write_refused_readings(record: &Record, out: &mut Vec<u8>) -> io::Result<()> {
     let (layers, columns) = (record.layers, record.columns);
     let at = |layer, column| Place::Cell { layer, column };
     for place in
@@ -285,9 +312,6 @@ fn write_refused_readings(record: &Record, out: &mut impl Write) -> io::Result<(
     ];
     for (from, to) in pairs {
         writeln!(out, "no face {}", value(readings::flow(record, from, to, 0)))?;
-    }
-    for layer in [0, 1, layers + 1, u64::MAX] {
-        writeln!(out, "no screen {}", head_figures(record, layer, 0))?;
     }
     Ok(())
 }

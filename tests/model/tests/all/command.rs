@@ -70,7 +70,7 @@ fn unreadable_input_ends_with_a_message() {
 
 #[test]
 fn refused_scenarios_are_no_failure() {
-    for words in [["listing"], ["readings"], ["sums"], ["start"], ["brief"]] {
+    for words in [["listing"], ["readings"], ["heads"], ["sums"], ["start"], ["brief"], ["damaged"]] {
         assert_eq!(printed(model_on(words[0], &words, b"\xFF")), "scenario 1\n");
     }
     assert_eq!(printed(model_on("entry", &["entry", "1"], b"")), "refused 1\n");
@@ -88,6 +88,16 @@ fn start_and_entries_are_printed() {
     let readings = printed(model_on("k-readings", &["readings"], &k));
     assert!(readings
         .contains("\ninward 500000 2 15267409\nacross 500000 1 0\nacross 500000 2 -3614535\ndown 500000 1 3970\n"));
+}
+
+#[test]
+fn damaged_records_are_stepped() {
+    let damaged = printed(model_on("k-damaged", &["damaged"], &text_of(&NUMBERS)));
+    assert!(damaged.starts_with("unchanged taken "));
+    // Three layers, layer 2 without screen, a time at its limit and one past it.
+    for line in ["counts 3 refused 14", "numbers 25 refused 14", "totals 5 refused 9 ", "totals 6 refused 14"] {
+        assert!(damaged.contains(&format!("\n{line}")), "{line}");
+    }
 }
 
 #[test]

@@ -1,0 +1,1 @@
+// The record that start gives for an accepted text: laws only, in specs/.

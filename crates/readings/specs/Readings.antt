@@ -1,0 +1,169 @@
+-- The readings of a record in whole numbers (document 01, 'Readings' and 'Who brings a refusal about').
+-- Each is judged in the order 14, 12, 13, 7 (its length part), 8, as far as it has such a condition. Layers and columns that a caller names
+-- count from 1, as in 01; those of a grid count layers from 0.
+-- Assumes nothing.
+use mathlib.Core.Bool.{Bool, true, false, cond, not, _&&_, _||_}
+use mathlib.Core.Path.{_≡_}
+use mathlib.Core.List.{List, [], _∷_}
+use Prim.Native.Nat.{ℕ, zero, suc, _+_, _*_, _-_, _/_, _%_}
+use lib.IntN.{ℤ, pos, negℤ}
+use lib.Dec.{eqb, leb, ltb}
+use lib.Signed.{ltZ}
+use lib.ListN.{length, getD, take, drop}
+use Rattle.laws.specs.All.{allBelow}
+use Rattle.laws.specs.Refusal.{first}
+use Rattle.laws.specs.Sums.{ifℕ, sumℕ}
+use Rattle.network.specs.Network.{Face, Network, State, lossAt, drawdown, flow, lossIn, lengthOut, unstable}
+use Rattle.network.specs.Grid.{Grid, storedColumns, layersOf, placeCount, place, acrossFace, downFace, networkOf}
+use Rattle.record.specs.declared.Record.{Record}
+use Rattle.record.specs.Record.{gridOf, stateOf}
+use Rattle.validity.specs.Validity.{equalℤ, valid}
+use Rattle.readings.specs.declared.Place.{Place}
+use Rattle.readings.specs.declared.Place.the-variants.{Well, Cell}
+use Rattle.readings.specs.declared.Amount.{Amount}
+use Rattle.readings.specs.declared.Totals.{Totals}
+use Rattle.readings.specs.declared.Balance.{Balance}
+use Rattle.readings.specs.declared.Count.{Count}
+use Rattle.readings.specs.declared.Sameness.{Sameness}
+
+-- ---- answers, by the number of the first refusal, 0 for none: the value, or the number and nothing else
+
+unfoldable pub amountOf : ℕ → ℤ → Amount
+amountOf zero x = Amount.Given x
+amountOf (suc n) x = Amount.Refused (suc n)
+
+unfoldable pub balanceOf : ℕ → Totals → Balance
+balanceOf zero t = Balance.Given t
+balanceOf (suc n) t = Balance.Refused (suc n)
+
+unfoldable pub countOf : ℕ → ℕ → Count
+countOf zero n = Count.Given n
+countOf (suc n) k = Count.Refused (suc n)
+
+unfoldable pub samenessOf : ℕ → Bool → Sameness
+samenessOf zero t = Sameness.Given t
+samenessOf (suc n) t = Sameness.Refused (suc n)
+
+-- ---- places
+
+-- layer i and column j are among the grid's; columns 1 to m−1 store water
+unfoldable pub isLayer : Grid → ℕ → Bool
+isLayer G i = leb 1 i && leb i (G .layers)
+
+unfoldable pub isStored : Grid → ℕ → Bool
+isStored G j = leb 1 j && ltb j (G .columns)
+
+-- whether p names a place: the well, or a cell inside the last column
+unfoldable pub isNamed : Grid → Place → Bool
+isNamed G Well = true
+isNamed G (Cell i j) = isLayer G i && isStored G j
+
+-- its number in the network
+unfoldable pub numberOf : Grid → Place → ℕ
+numberOf G Well = 0
+numberOf G (Cell i j) = place G (i - 1) j
+
+-- ---- drawdown at a place, µm
+
+unfoldable pub drawdownOf : Record → Place → Amount
+drawdownOf r p =
+    amountOf (first ((not (valid r), 14) ∷ (not (isNamed (gridOf r) p), 12) ∷ []))
+    (drawdown (networkOf (gridOf r)) (stateOf r .losses) (numberOf (gridOf r) p))
+
+-- ---- budget, nl: pumped total, well's loss, all cells' loss, inflow total
+
+unfoldable pub totalsIn : Network → State → Totals
+totalsIn N s = record {
+  pumped = s .pumped;
+  «well_loss» = lossAt (s .losses) 0;
+  «cell_loss» = lossIn N (λ p. ltb 0 p) (s .losses);
+  inflow = s .inflow;
+}
+
+unfoldable pub budgetOf : Record → Balance
+budgetOf r = balanceOf (first ((not (valid r), 14) ∷ [])) (totalsIn (networkOf (gridOf r)) (stateOf r))
+
+-- ---- storage loss of a set, nl
+
+-- the set that bytes give, one for each place in the network's order: nonzero means in
+unfoldable pub setOf : List ℕ → ℕ → Bool
+setOf bytes p = not (eqb (getD bytes p 0) 0)
+
+unfoldable pub lossOf : Record → List ℕ → Amount
+lossOf r bytes =
+    amountOf (first ((not (valid r), 14) ∷ (not (eqb (length bytes) (placeCount (gridOf r))), 13) ∷ []))
+    (lossIn (networkOf (gridOf r)) (setOf bytes) (stateOf r .losses))
+
+-- ---- flow of one face, nl, for a step Δt not taken
+
+-- whether a C rule joins a to b, in this order: the well to column 1 of a screened layer, a stored column to the next, a layer to the one below
+unfoldable pub leads : Grid → Place → Place → Bool
+leads G Well Well = false
+leads G Well (Cell i j) = isLayer G i && G .screened (i - 1) && eqb j 1
+leads G (Cell i j) Well = false
+leads G (Cell i j) (Cell k l) = isLayer G i && isLayer G k && isStored G j && (eqb k i && eqb l (suc j) || eqb k (suc i) && eqb l j)
+
+-- that face
+unfoldable pub faceFrom : Grid → Place → Place → Face
+faceFrom G Well Well = acrossFace G 0 0
+faceFrom G Well (Cell i j) = acrossFace G (i - 1) 0
+faceFrom G (Cell i j) Well = acrossFace G (i - 1) j
+faceFrom G (Cell i j) (Cell k l) = cond (eqb k i) (acrossFace G (i - 1) j) (downFace G (i - 1) j)
+
+-- the water from a to b: that of the face, with the other sign where the face leads from b to a
+unfoldable pub waterFrom : Grid → List ℤ → ℕ → Place → Place → ℤ
+waterFrom G vs dt a b =
+    cond (leads G a b) (flow (networkOf G) vs dt (faceFrom G a b)) (negℤ (flow (networkOf G) vs dt (faceFrom G b a)))
+
+unfoldable pub flowOf : Record → Place → Place → ℕ → Amount
+flowOf r a b dt =
+    amountOf (first (
+    (not (valid r), 14)
+    ∷ (not (leads (gridOf r) a b || leads (gridOf r) b a), 12)
+    ∷ (lengthOut dt, 7)
+    ∷ (unstable (networkOf (gridOf r)) dt, 8)
+    ∷ []))
+    (waterFrom (gridOf r) (stateOf r .losses) dt a b)
+
+-- ---- cells deeper than D
+
+-- the cell of layer i, from 0, and column j is deeper
+unfoldable pub isDeeper : Record → ℕ → ℕ → ℕ → Bool
+isDeeper r D i j = ltZ (pos D) (drawdown (networkOf (gridOf r)) (stateOf r .losses) (place (gridOf r) i j))
+
+-- c is layer×100+column of such a cell
+unfoldable pub isDeepCode : Record → ℕ → ℕ → Bool
+isDeepCode r D c = isLayer (gridOf r) (c / 100) && isStored (gridOf r) (c % 100) && isDeeper r D (c / 100 - 1) (c % 100)
+
+-- how many such cells there are
+unfoldable pub deepCount : Record → ℕ → ℕ
+deepCount r D = sumℕ (layersOf (gridOf r)) λ i. sumℕ (storedColumns (gridOf r)) λ j. ifℕ (isDeeper r D i j) 1
+
+-- a list with n slots is too short for them
+unfoldable pub deepRefusal : Record → ℕ → ℕ → ℕ
+deepRefusal r D n = first ((not (valid r), 14) ∷ (ltb n (deepCount r D), 13) ∷ [])
+
+-- how often c stands in a list
+unfoldable pub times : ℕ → List ℕ → ℕ
+times c l = sumℕ l λ x. ifℕ (eqb x c) 1
+
+-- how many slots of a list with n slots are written: none where the reading is refused
+unfoldable pub written : Record → ℕ → ℕ → ℕ
+written r D n = cond (eqb (deepRefusal r D n) 0) (deepCount r D) 0
+
+-- The answer, and what a lent list `old` is after it: each such cell's code once in the part written, in any order, and no other; the rest as before.
+pub record Deep (r : Record) (D : ℕ) (old : List ℕ) (answer : Count) (new : List ℕ) : Type 0 where
+  pub answered : answer ≡ countOf (deepRefusal r D (length old)) (deepCount r D)
+  pub once : (c : ℕ) → times c (take (written r D (length old)) new) ≡ ifℕ (eqb (deepRefusal r D (length old)) 0 && isDeepCode r D c) 1
+  pub slots : length new ≡ length old
+  pub rest : drop (written r D (length old)) new ≡ drop (written r D (length old)) old
+
+-- ---- whether two records are the same: equal layer and column counts, equal D everywhere
+
+unfoldable pub sameDepths : Record → Record → Bool
+sameDepths r q = allBelow (placeCount (gridOf r)) λ p. equalℤ (drawdown (networkOf (gridOf r)) (stateOf r .losses) p) (drawdown (networkOf (gridOf q)) (stateOf q .losses) p)
+
+unfoldable pub sameOf : Record → Record → Sameness
+sameOf r q =
+    samenessOf (first ((not (valid r), 14) ∷ (not (valid q), 14) ∷ []))
+    (eqb (gridOf r .layers) (gridOf q .layers) && eqb (gridOf r .columns) (gridOf q .columns) && sameDepths r q)
