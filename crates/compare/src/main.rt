@@ -99,8 +99,17 @@ fn print_heading(number: u64, refusal: u64) {
     print_line_end();
 }
 
-// The pumping entries, one after the other, each from the record that the one before it left, and the readings after each.
-fn print_entries_run(text: &[u8], start: Record) {
+// What is printed of a state: the readings in whole numbers, or the head losses.
+fn print_state(heads: bool, rec: Record, before: Record, start: Record, length: u64) {
+    if heads {
+        report::print_heads(rec, length);
+    } else {
+        report::print_readings(rec, before, start, length);
+    }
+}
+
+// The pumping entries, one after the other, each from the record that the one before it left, and the state after each.
+fn print_entries_run(text: &[u8], heads: bool, start: Record) {
     let mut rec = start;
     let mut number: u64 = 1;
     while number <= 500 {
@@ -111,14 +120,23 @@ fn print_entries_run(text: &[u8], start: Record) {
         let ran = run(rec, entry);
         print_heading(number, ran.refusal);
         let after = ran.record;
-        report::print_readings(after, rec, start, entry.length);
+        print_state(heads, after, rec, start, entry.length);
         rec = after;
         number += 1;
     }
 }
 
-// Every reading at the start, for a length of 1 µs, and after each entry.
-fn print_states(text: &[u8]) {
+// What is printed of the start alone.
+fn print_refused(heads: bool, start: Record) {
+    if heads {
+        report::print_refused_heads(start);
+    } else {
+        report::print_refused_readings(start);
+    }
+}
+
+// The state at the start, for a length of 1 µs, and after each entry.
+fn print_states(text: &[u8], heads: bool) {
     let answer = scenario::start(text);
     let outcome = answer.outcome;
     let start = answer.record;
@@ -130,9 +148,9 @@ fn print_states(text: &[u8]) {
         }
         Outcome::Taken => {
             print_heading(0, 0);
-            report::print_refused_readings(start);
-            report::print_readings(start, start, start, 1);
-            print_entries_run(text, start);
+            print_refused(heads, start);
+            print_state(heads, start, start, start, 1);
+            print_entries_run(text, heads, start);
         }
     }
 }
@@ -154,7 +172,8 @@ fn compare(i: usize) {
     libc::close(file);
     print_start(&text[..got]);
     print_entries(&text[..got]);
-    print_states(&text[..got]);
+    print_states(&text[..got], false);
+    print_states(&text[..got], true);
 }
 
 fn main() {

@@ -1,6 +1,6 @@
 -- Which faces the reading finds: laws only, nothing to believe.
 --     Led             two ends that a C rule joins, in this order: the well's face, one across, one down; led: from the test
---     face-listed     the face that leads from one end to the other is among the grid's
+--     face-listed     the face that leads from one end to the other is among the grid's; leads-listed: from the test
 --     one-way         no face leads back
 --     flow-turned     named the other way round, two ends give the same number with the other sign, or the same refusal
 -- Assumes nothing.
@@ -62,6 +62,9 @@ module _ (G : Grid) where
       stored zero h = absurd (omega arith)
       stored (suc j) h = refl
   face-listed (down {i} {j} {k} i₁ i₂ j₁ j₂ e f) = rw (ne-eqb k i (λ q. absurd (omega arith))) (down-mem G (i - 1) j (omega arith) j₁ j₂)
+
+  pub leads-listed : (a b : Place) → leads G a b ≡ true → List·Memᴰ (faceFrom G a b) (facesOf G)
+  leads-listed a b e = face-listed (led a b e)
 
   pub one-way : {a b : Place} → Led G a b → leads G b a ≡ false
   unfolding leads

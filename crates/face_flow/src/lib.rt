@@ -169,7 +169,7 @@ pub fn face_flow(record: Record, from: Place, to: Place, dt: u64) -> Amount
     Amount::Given(turned)
 }
 
-// Named the other way round, two ends give the same number with the other sign, or the same refusal.
+// A theorem, with nothing to run: named the other way round, two ends give the same number with the other sign, or the same refusal.
 pub fn ends_turned()
     ensures { λ r. ⌜ ((q : Record) (a b : Place) (dt : ℕ) → flowOf q b a dt ≡ opposite (flowOf q a b dt)) ⌝ }
 {}

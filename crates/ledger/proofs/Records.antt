@@ -23,7 +23,7 @@ use Rattle.validity.specs.Laws.{valid-record}
 use Rattle.step.specs.Step.{withState, stepRefusal, stepOf}
 use Rattle.step.specs.Laws.{same-network, same-state, step-valid}
 use Rattle.beginning.specs.Laws.{Carries}
-use Rattle.ledger.specs.Calls.{Reading, drawdown, budget, loss, flow, deep, same, sameAs, Call, step, read, Reply, Gives, left, leftByAll, Run, none, then}
+use Rattle.ledger.specs.Calls.{Reading, drawdown, budget, loss, flow, deep, same, sameAs, headLoss, Call, step, read, Reply, Gives, left, leftByAll, Run, none, then}
 use Rattle.ledger.specs.Ledger.{afterCall, afterCalls, outcomesFrom}
 use Rattle.ledger.specs.Promise.{outcomesIn}
 
@@ -84,6 +84,7 @@ no-outcome r (flow a b dt) reply replies g = rw g
 no-outcome r (deep D old) reply replies g = rw (g .2)
 no-outcome r (same q) reply replies g = rw g
 no-outcome r (sameAs q) reply replies g = rw g
+no-outcome r (headLoss layer dt) reply replies g = rw g
 
 -- that to a step holds the one that the ledger has for it
 one-outcome : {G : Grid} {s : State} {r : Record} (rate dt : ℕ) (reply : Reply) (replies : List Reply) → Carries G s r → Gives r (step rate dt) reply

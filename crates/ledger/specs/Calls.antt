@@ -12,6 +12,8 @@ use Rattle.readings.specs.declared.Amount.{Amount}
 use Rattle.readings.specs.declared.Balance.{Balance}
 use Rattle.readings.specs.declared.Count.{Count}
 use Rattle.readings.specs.declared.Sameness.{Sameness}
+use Rattle.head_loss.specs.declared.Loss.{Loss}
+use Rattle.head_loss.specs.HeadLoss.{headLossOf}
 use Rattle.readings.specs.Readings.{drawdownOf, budgetOf, lossOf, flowOf, Deep, sameOf}
 
 -- a reading, with its arguments beside the record
@@ -23,6 +25,7 @@ pub data Reading : Type 0 where
   deep : ℕ → List ℕ → Reading  -- the threshold and the lent list
   same : Record → Reading  -- the run's record first, the other second
   sameAs : Record → Reading  -- the other first
+  headLoss : ℕ → ℕ → Reading  -- the layer, for a step Δt
 
 pub data Call : Type 0 where
   step : ℕ → ℕ → Call  -- rate and Δt
@@ -35,6 +38,7 @@ pub data Reply : Type 0 where
   balance : Balance → Reply
   listed : Count → List ℕ → Reply
   sameness : Sameness → Reply
+  losses : Loss → Reply
 
 -- what a call on the record r gives back
 unfoldable pub Gives : Record → Call → Reply → Type 0
@@ -46,6 +50,7 @@ Gives r (read (flow a b dt)) reply = reply ≡ amount (flowOf r a b dt)
 Gives r (read (deep D old)) reply = (n : Count) × (new : List ℕ) × (reply ≡ listed n new) × Deep r D old n new
 Gives r (read (same q)) reply = reply ≡ sameness (sameOf r q)
 Gives r (read (sameAs q)) reply = reply ≡ sameness (sameOf q r)
+Gives r (read (headLoss layer dt)) reply = reply ≡ losses (headLossOf r layer dt)
 
 -- the record that it leaves: a step the one that it returns, a reading the one that it was handed
 unfoldable pub left : Record → Call → Record

@@ -9,7 +9,7 @@ use Prim.Native.Nat.{ℕ}
 use Rattle.record.specs.declared.Record.{Record}
 use Rattle.readings.specs.declared.Count.{Count}
 use Rattle.readings.specs.Readings.{Deep}
-use Rattle.ledger.specs.Calls.{drawdown, budget, loss, flow, deep, same, sameAs, Call, step, read, Reply, listed, Gives, left, Run, none, then}
+use Rattle.ledger.specs.Calls.{drawdown, budget, loss, flow, deep, same, sameAs, headLoss, Call, step, read, Reply, listed, Gives, left, Run, none, then}
 
 module _ (list : (r : Record) (D : ℕ) (old : List ℕ) → (n : Count) × (new : List ℕ) × Deep r D old n new) where
   pub answered : (r : Record) (c : Call) → (reply : Reply) × Gives r c reply
@@ -22,6 +22,7 @@ module _ (list : (r : Record) (D : ℕ) (old : List ℕ) → (n : Count) × (new
   answered r (read (deep D old)) = let l = list r D old in (listed (l .0) (l .1), (l .0, l .1, refl, l .2))
   answered r (read (same q)) = (_, refl)
   answered r (read (sameAs q)) = (_, refl)
+  answered r (read (headLoss layer dt)) = (_, refl)
 
   pub replied : (calls : List Call) (r : Record) → (replies : List Reply) × Run r calls replies
   replied [] r = ([], none)

@@ -21,7 +21,7 @@ use Rattle.readings.specs.declared.Place.the-variants.{Cell}
 use Rattle.readings.specs.declared.Amount.{Amount}
 use Rattle.readings.specs.declared.Balance.{Balance}
 use Rattle.readings.specs.Readings.{isNamed, numberOf, drawdownOf, budgetOf, lossOf}
-use Rattle.ledger.specs.Calls.{Call, Reply, stepped, amount, balance, listed, sameness}
+use Rattle.ledger.specs.Calls.{Call, Reply, stepped, amount, balance, listed, sameness, losses}
 use Rattle.ledger.specs.Ledger.{gridFrom, networkFrom, ledgerOf, outcomesFrom, acceptedOf, pumpedBy, inSet, netInto, greatest}
 
 -- the outcomes among the replies of a run, one for each step call
@@ -32,6 +32,7 @@ outcomesIn (amount a ∷ rs) = outcomesIn rs
 outcomesIn (balance b ∷ rs) = outcomesIn rs
 outcomesIn (listed n l ∷ rs) = outcomesIn rs
 outcomesIn (sameness s ∷ rs) = outcomesIn rs
+outcomesIn (losses l ∷ rs) = outcomesIn rs
 
 -- what holds of the replies of a list of calls from the record that start gives for a text, and of the record r that the last of them left
 pub record Holds (text : List ℕ) (calls : List Call) (replies : List Reply) (r : Record) : Type 0 where

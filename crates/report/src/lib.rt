@@ -1,5 +1,6 @@
 // Prints the readings of a record as the reference model does (tests/README.md), for `compare`. Its functions promise nothing but to end:
 // what they print is held to the model's.
+use head_loss::Loss;
 use libc::STDOUT_FILENO;
 use readings::Amount;
 use readings::Balance;
@@ -544,4 +545,57 @@ pub fn print_refused_readings(rec: Record) {
     }
     print_no_places(rec, layers, columns);
     print_no_faces(rec, layers, columns);
+}
+
+// ---- head losses
+
+// A float as its 64 bits.
+fn print_float(x: f64) {
+    if x == x {
+        print_number(f64::to_bits(x));
+    } else {
+        print(b" nan");
+    }
+}
+
+fn print_loss_figures(rec: Record, layer: u64, dt: u64) {
+    let loss = head_loss::head_loss(rec, layer, dt);
+    match loss {
+        Loss::Refused(number) => print_refusal(number),
+        Loss::Given(losses) => {
+            print_float(losses.inflow);
+            print_float(losses.screen_loss);
+            print_float(losses.pipe_loss);
+        }
+    }
+    print_line_end();
+}
+
+// The head losses of every screened layer for a length not taken.
+pub fn print_heads(rec: Record, dt: u64) {
+    let mut i: u64 = 1;
+    while i <= 20 {
+        if is_screened(rec, i) {
+            print_row_head(b"head", dt, i);
+            print_loss_figures(rec, i, dt);
+        }
+        i += 1;
+    }
+}
+
+fn print_no_screen(rec: Record, layer: u64) {
+    print(b"no screen");
+    print_loss_figures(rec, layer, 0);
+}
+
+// Layers that 12 refuses, before any length is judged.
+pub fn print_refused_heads(rec: Record) {
+    let layers = rec.site.layers;
+    if 20 < layers {
+        return;
+    }
+    print_no_screen(rec, 0);
+    print_no_screen(rec, 1);
+    print_no_screen(rec, layers + 1);
+    print_no_screen(rec, 18446744073709551615);
 }

@@ -6,10 +6,10 @@ use Rattle.compare.proofs.print_entries_run.Statement.{statement}
 use Rattle.compare.proofs.print_entries_run.Tie as tie
 
 abbrev Inv-loop : tie.InvT-loop
-Inv-loop text start rec₀ number₀ rec number = number ≤ 501
+Inv-loop text heads start rec₀ number₀ rec number = number ≤ 501
 
 abbrev μ-loop : tie.MeasureT-loop
-μ-loop text start rec₀ number₀ rec number = 501 - number
+μ-loop text heads start rec₀ number₀ rec number = 501 - number
 
 loop-holds : tie.Need-loop-holds Inv-loop μ-loop
 loop-holds c = omega arith
@@ -32,8 +32,8 @@ run-requires c κs = search needs
 print-heading-requires : tie.Need-print-heading-requires Inv-loop μ-loop
 print-heading-requires c κs = search needs
 
-print-readings-requires : tie.Need-print-readings-requires Inv-loop μ-loop
-print-readings-requires c κs = search needs
+print-state-requires : tie.Need-print-state-requires Inv-loop μ-loop
+print-state-requires c κs = search needs
 
 add-number : tie.Need-add-number Inv-loop μ-loop
 add-number c = omega arith
@@ -60,7 +60,7 @@ print-entries-run-spec =
     returns
     run-requires
     print-heading-requires
-    print-readings-requires
+    print-state-requires
     add-number
     loop-less
     loop-again

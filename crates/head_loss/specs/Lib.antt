@@ -1,0 +1,2 @@
+pub mod HeadLoss
+pub mod Slots

@@ -1,0 +1,36 @@
+-- `hydraulics::pipe_loss` meets its contract: the operations are those of the definition, in its order. Assumes nothing.
+use borrow.Author.Needs.{needs}
+use Rattle.hydraulics.specs.Hydraulics.{pipeLoss}
+use Rattle.hydraulics.proofs.Laws.{twice-gravity-is, gravity-is}
+use Rattle.hydraulics.proofs.pipe_loss.Statement.{statement}
+use Rattle.hydraulics.proofs.pipe_loss.Tie as tie
+
+millionths-requires : tie.Need-millionths-requires
+millionths-requires c κs = search needs
+
+absolute-requires : tie.Need-absolute-requires
+absolute-requires c κs = search needs
+
+whole-requires : tie.Need-whole-requires
+whole-requires c κs = search needs
+
+mul-whole : tie.Need-mul-whole
+mul-whole c = search needs
+
+whole-requires-2 : tie.Need-whole-requires-2
+whole-requires-2 c κs = search needs
+
+returns : tie.Need-returns
+unfolding pipeLoss
+returns c = rw (twice-gravity-is, gravity-is, c .before .before .before .millionths .ensures, c .before .before .absolute .ensures, c .before .whole .ensures .0, c .whole2 .ensures .0)
+
+pub pipe-loss-spec : {M : Type 1} → statement M
+pipe-loss-spec =
+    tie.close
+    (tie.spec
+    millionths-requires
+    absolute-requires
+    whole-requires
+    mul-whole
+    whole-requires-2
+    returns)
