@@ -14,7 +14,7 @@ use std::path::Path;
 use std::{fs, io};
 
 /// Kinds of random texts that take turns, and how many of them are grids: those with an even number under 10.
-const KINDS: u64 = 13;
+const KINDS: u64 = 14;
 const GRIDS: u64 = 5;
 
 /// A scenario text with a name for what it tries, and what start must say: 0 accepted, else the refusal.
@@ -80,6 +80,7 @@ impl Scenarios {
             10 => damage::one(random, turn + 5),
             11 => damage::several(random),
             12 => Case::accepted("cross-flow", &runs::cross_flow(random)),
+            13 => Case::accepted("long", &runs::long(random)),
             _ => {
                 let (layers, columns) = grid_size(self.seed, GRIDS * turn + kind / 2);
                 Case::accepted(&format!("grid-{layers}x{columns}"), &accepted::scenario(random, layers, columns))
@@ -95,7 +96,7 @@ fn work_is_bounded(text: &[u8]) -> bool {
         Ok(scenario) => {
             let steps: u64 = scenario.pumping.iter().map(|entry| entry.repeats).sum();
             let places = 1 + scenario.site.layers.len() * (scenario.site.columns() - 1);
-            steps <= 3000 && steps * places as u64 <= 300_000
+            steps * places as u64 <= 300_000 && (steps <= 3000 || places <= runs::FEW_PLACES)
         }
     }
 }

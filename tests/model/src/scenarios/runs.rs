@@ -147,3 +147,17 @@ pub fn pumped_total(random: &mut Random) -> Draft {
         draft
     })
 }
+
+/// Places of the grids on which runs are long.
+pub const FEW_PLACES: usize = 5;
+
+/// Tens of thousands of equal steps on the smallest grids, pumping and at rest.
+pub fn long(random: &mut Random) -> Draft {
+    let (layers, columns) = random.one_of(&[(2, 2), (2, 3), (3, 2), (4, 2)]);
+    let mut draft = grid(random, layers, columns);
+    let length = draft.longest_step().max(1);
+    let (pumped, rest) = (random.between(10_000, 40_000), random.between(1, 10_000));
+    let rate = pumping_rate(random, &draft, length, pumped);
+    draft.pumping = vec![[rate, length, pumped], [0, length, rest]];
+    draft
+}

@@ -1,0 +1,3 @@
+pub mod EntryLine
+pub mod Figures
+pub mod Length

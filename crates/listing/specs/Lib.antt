@@ -1,0 +1,4 @@
+pub mod Listing
+pub mod Laws
+pub mod Entries
+pub mod Printed
