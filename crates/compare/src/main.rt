@@ -174,6 +174,7 @@ fn compare(i: usize) {
     print_entries(&text[..got]);
     print_states(&text[..got], false);
     print_states(&text[..got], true);
+    printing::print_listing(&text[..got]);
 }
 
 fn main() {

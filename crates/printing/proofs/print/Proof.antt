@@ -1,9 +1,9 @@
--- `drawdown::print`: a line's length is within its bytes. Assumes nothing.
+-- `printing::print`: a line's length is within its bytes. Assumes nothing.
 use mathlib.Core.Path.{sym}
 use lib.Seq.{length-take-le}
 use borrow.Author.Needs.{needs}
-use Rattle.drawdown.proofs.print.Statement.{statement}
-use Rattle.drawdown.proofs.print.Tie as tie
+use Rattle.printing.proofs.print.Statement.{statement}
+use Rattle.printing.proofs.print.Tie as tie
 
 array-share-prefix-bytes : tie.Need-array-share-prefix-bytes
 array-share-prefix-bytes c = c .before .pre

@@ -1,9 +1,9 @@
--- `drawdown::print_listing`: at most a piece for each entry that a text can have. Assumes nothing.
+-- `printing::print_listing`: at most a piece for each entry that a text can have. Assumes nothing.
 use Prim.Native.Nat.{_-_, _≤_}
 use native.Mathlib.Omega.{arith}
 use borrow.Author.Needs.{needs}
-use Rattle.drawdown.proofs.print_listing.Statement.{statement}
-use Rattle.drawdown.proofs.print_listing.Tie as tie
+use Rattle.printing.proofs.print_listing.Statement.{statement}
+use Rattle.printing.proofs.print_listing.Tie as tie
 
 abbrev Inv-loop : tie.InvT-loop
 Inv-loop text record₀ done₀ «record» done = done ≤ 500
