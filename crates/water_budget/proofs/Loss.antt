@@ -169,9 +169,9 @@ module _ (r : Record) (ok : valid r ≡ true) (n : ℕ) (e : n ≡ 1 + r .site .
   pub cells-listed : n ≤ length everyCell
   cells-listed = omega (arith, every-length, places-few)
 
-  pub budget-given : {x : ℤ} → x ≡ sumℤ (range 0 n) (countedLoss (r .«well_loss») (r .losses) (r .site .columns - 1) everyCell)
-      → Balance.Given (record { pumped = r .pumped; «well_loss» = r .«well_loss»; «cell_loss» = x; inflow = r .inflow }) ≡ budgetOf r
+  pub budget-given : {w x i : ℤ} → w ≡ r .«well_loss» → x ≡ sumℤ (range 0 n) (countedLoss (r .«well_loss») (r .losses) (r .site .columns - 1) everyCell) → i ≡ r .inflow
+      → Balance.Given (record { pumped = r .pumped; «well_loss» = w; «cell_loss» = x; inflow = i }) ≡ budgetOf r
   unfolding budgetOf totalsIn stateOf lossAt onePerPlace
-  budget-given q = balance-given (skip (ap not ok) none)
-      (ap {B = Totals} (λ z. record { pumped = r .pumped; «well_loss» = r .«well_loss»; «cell_loss» = z; inflow = r .inflow })
-      (q ∙ loss-sum r (valid-record r ok) everyCell n e (λ p. ltb 0 p) (λ p h. every-cell p (omega (arith, places-few)))))
+  budget-given p q o = balance-given (skip (ap not ok) none)
+      (rw (p, o) (ap {B = Totals} (λ z. record { pumped = r .pumped; «well_loss» = r .«well_loss»; «cell_loss» = z; inflow = r .inflow })
+      (q ∙ loss-sum r (valid-record r ok) everyCell n e (λ p. ltb 0 p) (λ p h. every-cell p (omega (arith, places-few))))))

@@ -1,4 +1,5 @@
 -- `deep_cells::code` meets its contract. Assumes nothing.
+use mathlib.Core.Path.{refl}
 use borrow.Author.Needs.{needs}
 use Rattle.deep_cells.specs.Codes.{codeOf}
 use Rattle.deep_cells.proofs.code.Statement.{statement}
@@ -18,7 +19,7 @@ add-result-3 c = search needs
 
 returns : tie.Need-returns
 unfolding codeOf
-returns c = search needs
+returns c = refl
 
 pub code-spec : {M : Type 1} → statement M
 code-spec = tie.close (tie.spec add-result mul-result add-result-2 add-result-3 returns)

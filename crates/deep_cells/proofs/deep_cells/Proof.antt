@@ -34,7 +34,8 @@ count-deep-requires c κs = omega (arith, depths-ask _ (valid-record _ (passed (
 returns-2 : tie.Need-returns-2
 returns-2 c =
     let d = c .before .before .before in
-    refused-13 _ _ (passed (d .before .before .before .before)) (d .drawdowns .result) (d .drawdowns .ensures) _ (c .before .count-deep .ensures) (c .if2 .taken)
+    let s = d .before .before .before .before .before .before .before .args in
+    refused-13 (s .t1) (s .depth) (passed (d .before .before .before .before)) (d .drawdowns .result) (d .drawdowns .ensures) _ (c .before .count-deep .ensures) (c .if2 .taken)
 
 write-codes-requires : tie.Need-write-codes-requires
 write-codes-requires c κs =

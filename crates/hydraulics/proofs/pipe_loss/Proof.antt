@@ -1,6 +1,7 @@
 -- `hydraulics::pipe_loss` meets its contract: the operations are those of the definition, in its order. Assumes nothing.
+use mathlib.Core.Path.{ap, ap₂}
 use borrow.Author.Needs.{needs}
-use Rattle.hydraulics.specs.Hydraulics.{pipeLoss}
+use Rattle.hydraulics.specs.Hydraulics.{_⊕_, _⊖_, _⊗_, _⊘_, pipeLoss}
 use Rattle.hydraulics.proofs.Laws.{twice-gravity-is, gravity-is}
 use Rattle.hydraulics.proofs.pipe_loss.Statement.{statement}
 use Rattle.hydraulics.proofs.pipe_loss.Tie as tie
@@ -22,7 +23,13 @@ whole-requires-2 c κs = search needs
 
 returns : tie.Need-returns
 unfolding pipeLoss
-returns c = rw (twice-gravity-is, gravity-is, c .before .before .before .millionths .ensures, c .before .before .absolute .ensures, c .before .whole .ensures .0, c .whole2 .ensures .0)
+returns c =
+    let s = c .before .before .before in
+    let v = s .before .args .v in
+    let above = s .before .args .above in
+    let length = ap₂ _⊘_ (c .before .whole .ensures .0) (c .whole2 .ensures .0) in
+    let friction = ap₂ _⊗_ (ap₂ _⊗_ (s .millionths .ensures) length) (ap (v ⊗_) (c .before .before .absolute .ensures)) in
+    ap₂ _⊕_ (ap₂ _⊘_ friction twice-gravity-is) (ap ((above ⊗ above ⊖ v ⊗ v) ⊘_) gravity-is)
 
 pub pipe-loss-spec : {M : Type 1} → statement M
 pipe-loss-spec =

@@ -1,7 +1,7 @@
 -- `hydraulics::screen_loss` meets its contract: each arm is the definition at its law. Assumes nothing.
-use mathlib.Core.Path.{_∙_}
+use mathlib.Core.Path.{ap, _∙_}
 use borrow.Author.Needs.{needs}
-use Rattle.hydraulics.specs.Hydraulics.{screenLoss}
+use Rattle.hydraulics.specs.Hydraulics.{_⊕_, _⊗_, screenLoss}
 use Rattle.hydraulics.proofs.Laws.{zero-is}
 use Rattle.hydraulics.proofs.screen_loss.Statement.{statement}
 use Rattle.hydraulics.proofs.screen_loss.Tie as tie
@@ -28,7 +28,10 @@ returns-2 c = rw (c .before .law .given .1)
 
 returns-3 : tie.Need-returns-3
 unfolding screenLoss
-returns-3 c = rw (c .before .before .law2 .given .1, c .absolute .ensures)
+returns-3 c =
+    let law = c .before .before .law2 .given in
+    let y = c .before .before .before .before .args .y in
+    rw (law .1) (ap (λ size. law .0 .0 ⊗ y ⊕ law .0 .1 .0 ⊗ y ⊗ size) (c .absolute .ensures))
 
 pub screen-loss-spec : {M : Type 1} → statement M
 screen-loss-spec =

@@ -64,8 +64,11 @@ pipe-loss-requires-2 c κs =
 returns : tie.Need-returns
 returns c =
     let s = c .before .before .before .before .before .before .before .before .before .before in
-    c .pipe-loss .ensures
-    ∙ ap₂ (λ d v. pipeLoss (millionths (s .args .t1 .friction)) (pos (d - 2 * s .args .t1 .intake)) (s .args .t1 .radius) v v) (c .before .before .before .before .before .before .twice-centre .ensures .0) (c .before .before .before .before .before .before .before .before .before .velocity-at .ensures)
+    let centre = c .before .before .before .before .before .before .twice-centre in
+    let flow = c .before .before .before .before .before .before .before .before .before .velocity-at in
+    let loss : c .pipe-loss .result ≡ pipeLoss (millionths (s .args .t1 .friction)) (pos (centre .result - 2 * s .args .t1 .intake)) (s .args .t1 .radius) (flow .result) (flow .result) = c .pipe-loss .ensures in
+    loss
+    ∙ ap₂ (λ d v. pipeLoss (millionths (s .args .t1 .friction)) (pos (d - 2 * s .args .t1 .intake)) (s .args .t1 .radius) v v) (centre .ensures .0) (flow .ensures)
     ∙ to-intake _ _ (s .pre) (eOf (s .args .inflows .now)) (sym (c .before .before .before .upward-from .ensures) ∙ c .before .enum-told .given .1)
 
 returns-2 : tie.Need-returns-2

@@ -25,7 +25,7 @@ valid-requires : tie.Need-valid-requires
 valid-requires c κs = tt
 
 returns : tie.Need-returns
-returns c = refused-14 _ _ (sym (c .before .valid .ensures) ∙ not-true _ (c .if1 .taken))
+returns c = refused-14 (c .before .before .args .t1) (c .before .before .args .place) (sym (c .before .valid .ensures) ∙ not-true _ (c .if1 .taken))
 
 enum-told : tie.Need-enum-told
 enum-told c = search needs
@@ -71,12 +71,14 @@ element-copy-out-drawdown-2 c = search needs
 drawdown-requires-2 : tie.Need-drawdown-requires-2
 drawdown-requires-2 c κs =
     let at = c .before .before .before in
-    rw (back _ (c .before .drawdown-arg .given)) (cell-asks _ (passed (at .before .before .before .before .before)) _ _ (found at) _ (c .before .before .slot-of .ensures .0))
+    let named = at .before .before .before .place .given in
+    rw (back _ (c .before .drawdown-arg .given)) (cell-asks _ (passed (at .before .before .before .before .before)) (named .0 .0) (named .0 .1 .0) (found at) _ (c .before .before .slot-of .ensures .0))
 
 cast-t26 : tie.Need-cast-t26
 cast-t26 c =
     let at = c .before .before .before .before in
-    depth-fits (cell-asks _ (passed (at .before .before .before .before .before)) _ _ (found at) _ (c .before .before .before .slot-of .ensures .0) .1)
+    let named = at .before .before .before .place .given in
+    depth-fits (cell-asks _ (passed (at .before .before .before .before .before)) (named .0 .0) (named .0 .1 .0) (found at) _ (c .before .before .before .slot-of .ensures .0) .1)
     (rw (back _ (c .before .before .drawdown-arg .given)) at (c .drawdown2 .ensures))
 
 returns-3 : tie.Need-returns-3
@@ -87,9 +89,10 @@ returns-3 c =
 returns-4 : tie.Need-returns-4
 returns-4 c =
     let at = c .before .before .before .before in
-    cell-depth _ (passed (at .before .before .before .before .before)) _ _ (found at) _ (c .before .before .before .slot-of .ensures .0)
+    let named = at .before .before .before .place .given in
+    cell-depth _ (passed (at .before .before .before .before .before)) (named .0 .0) (named .0 .1 .0) (found at) _ (c .before .before .before .slot-of .ensures .0)
     (rw (back _ (c .before .before .drawdown-arg .given)) at (c .drawdown2 .ensures))
-    ∙ ap (drawdownOf _) (sym (at .before .before .before .place .given .1))
+    ∙ ap (drawdownOf _) (sym (named .1))
 
 pub drawdown-spec : {M : Type 1} → statement M
 drawdown-spec =

@@ -47,9 +47,9 @@ returns-2 c =
     let at = c .before .before in
     let ok = passed (at .before .before .before .before .before .before .before .before) in
     let v = valid-record _ ok in
-    rw (well-back _ v, inflow-back _ v, back _ (at .loss-in .ok))
-    (budget-given _ ok _ (at .before .before .before .before .before .before .place-count .ensures)
-    (rw (well-back _ v, at .before .before .before .before .before .every-cell .ensures) at (at .loss-in .ensures)))
+    let r = at .before .before .before .before .before .before .before .before .before .before .args .t1 in
+    let cells = rw (well-back _ v, at .before .before .before .before .before .every-cell .ensures) at (at .loss-in .ensures) in
+    budget-given r ok _ (at .before .before .before .before .before .before .place-count .ensures) (well-back r v) (back _ (at .loss-in .ok) ∙ cells) (inflow-back r v)
 
 pub budget-spec : {M : Type 1} → statement M
 budget-spec =
