@@ -1,5 +1,5 @@
 -- D of a valid record's cells by slot, as `flows::drawdowns` gives them, and by place: laws only, nothing to believe.
---     depths-ask, well-ask       nothing that `drawdowns` and `drawdown` ask is wanting; well-back: the well's loss is read back as it is
+--     depths-ask, well-ask       nothing that `drawdowns` and `drawdown` ask is wanting
 --     depth-place                D of slot 50×i + j is D of the place of layer i and column j+1; well-place: of the well
 --     depth-unused               D of a slot that no cell uses is 0
 -- Assumes nothing.
@@ -12,12 +12,8 @@ use lib.IntN.{pos, natAbs}
 use lib.ListN.{getD, replicate, length-replicate, List·getD-map}
 use lib.Signed.{_≤ℤ_}
 use borrow.Author.Tests.{le-leb}
-use mir.Syntax.{w64}
-use mir.Val.{toZ, ofZ}
-use mir.Facts.{toZ-ofZ}
 use Rattle.laws.specs.Fill.{fill, getD-fill}
 use Rattle.laws.specs.Rows.{all-from}
-use Rattle.laws.specs.Signed.{room-fits}
 use Rattle.network.specs.Limits.{drawdownLimit}
 use Rattle.network.specs.Network.{storageAt, drawdown, conductanceSum, stable}
 use Rattle.network.specs.Grid.{place, networkOf}
@@ -54,10 +50,6 @@ module _ (r : Record) (v : Valid r) where
   pub well-ask : (pos 0 ≤ℤ r .«well_loss») × (depthOf (r .«well_loss») (r .«well_storage») ≤ℤ pos drawdownLimit)
   unfolding wellDepth
   well-ask = at-rest .well
-
-  -- what the machine reads back of the well's loss
-  pub well-back : toZ w64 (ofZ w64 (r .«well_loss»)) ≡ r .«well_loss»
-  well-back = toZ-ofZ (room-fits (at-rest .wellRoom) (omega arith))
 
   pub well-place : depthOf (r .«well_loss») (r .«well_storage») ≡ drawdown (networkOf (gridOf r)) (stateOf r .losses) 0
   unfolding wellDepth

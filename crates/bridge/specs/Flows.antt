@@ -5,7 +5,7 @@
 -- Assumes nothing.
 use mathlib.Core.Path.{_≡_, refl, sym, ap, ap₂, _∙_}
 use mathlib.Core.Bool.{Bool, true, false, cond, not, _&&_, _||_, and-false, false≢true, true≢false}
-use mathlib.Core.Logic.{⊎-elim}
+use mathlib.Core.Logic.{inr, ⊎-elim}
 use mathlib.Core.List.{List}
 use Prim.Native.Nat.{ℕ, zero, suc, _+_, _*_, _-_, _/_, _%_, _^_, _≤_, _<_}
 use native.Mathlib.Nat.{zero-mul, zero-div}
@@ -31,7 +31,8 @@ use Rattle.slots.specs.Slots.{usedSlot, zeroUnused, coefficientsUnused}
 use Rattle.validity.specs.Validity.{isZeroℤ, lossesUnused}
 use Rattle.validity.specs.Laws.{Valid}
 use Rattle.flows.specs.Flows.{depthOf, depthAt, reducedC}
-use Rattle.worked.specs.Worked.{Lent, lent, depth, wellDepth, conductance, right, lower, fromWell, left, upper, toLast}
+use Rattle.worked.specs.Worked.{Lent, lent, depth, wellDepth, conductance, right, lower, fromWell, left, upper, toLast, Unused}
+use Rattle.worked.specs.Laws.{reduced-none}
 
 -- what `work_step` is lent of a record
 abbrev pub lentOf : Record → ℕ → ℕ → Lent
@@ -59,14 +60,6 @@ water-none Da Db dt = go (Db -ℤ Da)
     go (pos n) = rw (zero-mul n, zero-mul dt, zero-div (10 ^ 12))
     go (negsuc n) = rw (zero-mul (suc n), zero-mul dt, zero-div (10 ^ 12))
 
-reduced-none : (b : ℕ) (Da Db : ℤ) → reducedC b 0 Da Db ≡ pos 0
-unfolding reducedC inUse saturated
-reduced-none b Da Db = go (pos (1000 * b) -ℤ Da +ℤ (pos (1000 * b) -ℤ Db))
-  where
-    go : (z : ℤ) → shrZ (pos 0 *ℤ z) (2000 * b) ≡ pos 0
-    go (pos n) = rw (zero-mul n, zero-div (2000 * b))
-    go (negsuc n) = rw (zero-mul (suc n), zero-div (2000 * b))
-
 cond-same : {A : Type 0} (t : Bool) (x : A) → cond t x x ≡ x
 cond-same true x = refl
 cond-same false x = refl
@@ -75,6 +68,11 @@ if-same : (t : Bool) {a b : ℤ} → (t ≡ true → a ≡ b) → ifℤ t a ≡ 
 unfolding ifℤ
 if-same true h = h refl
 if-same false h = refl
+
+-- the slot of a layer and a column
+pub slot-at : (i j : ℕ) → slot i (suc j) ≡ 50 * i + j
+unfolding slot
+slot-at i j = omega arith
 
 module _ (r : Record) (v : Valid r) (rate dt : ℕ) where
   abbrev N : Network
@@ -90,7 +88,7 @@ module _ (r : Record) (v : Valid r) (rate dt : ℕ) where
   counted = counts-hold (r .site) (v .counts)
 
   -- layer 1 has no screen
-  dry : isScreened (r .site .screened) 0 ≡ false
+  pub dry : isScreened (r .site .screened) 0 ≡ false
   unfolding screenHolds
   dry = not-true _ (three-hold (ltb (screenLayer (r .site)) (r .site .layers)) (not (isScreened (r .site .screened) 0)) (ltb (r .site .intake) (screenTop (r .site))) (v .screen) .1)
 
@@ -98,11 +96,21 @@ module _ (r : Record) (v : Valid r) (rate dt : ℕ) where
   unfolding coefficientsUnused
   tests = four-hold (allBelow 20 (λ i. hasScreen (r .site) i || eqb (getD (r .screen) i 0) 0)) (zeroUnused (isCell (r .site)) (r .horizontal)) (zeroUnused (hasBelow (r .site)) (r .vertical)) (zeroUnused (isCell (r .site)) (r .storages)) (v .coefficientsUnused)
 
+  -- nothing is lost where there is no cell
+  no-cell : (k : ℕ) → Unused (r .site .layers) (r .site .columns) k → usedSlot (isCell (r .site)) k ≡ false
+  unfolding isCell
+  no-cell k u = ⊎-elim
+      (λ below. rw (le-ltb (k / 50) (r .site .layers) (omega arith)))
+      (λ past. rw (le-ltb (k % 50 + 1) (r .site .columns) past) (and-false (ltb (k / 50) (r .site .layers))))
+      u
+
+  pub none-lost : (k : ℕ) → k < 1000 → Unused (r .site .layers) (r .site .columns) k → getD (r .losses) k (pos 0) ≡ pos 0
+  unfolding lossesUnused
+  none-lost k h u = unused-none (usedSlot (isCell (r .site)) k) (getD (r .losses) k (pos 0)) (all-at (λ k. usedSlot (isCell (r .site)) k || isZeroℤ (getD (r .losses) k (pos 0))) 1000 k (v .lossesUnused) h) (no-cell k u)
+
   module _ (k : ℕ) (h : k < 1000) (past : r .site .columns ≤ k % 50 + 1) where
     pub loss-past : getD (r .losses) k (pos 0) ≡ pos 0
-    unfolding lossesUnused isCell
-    loss-past = unused-none (usedSlot (isCell (r .site)) k) (getD (r .losses) k (pos 0)) (all-at (λ k. usedSlot (isCell (r .site)) k || isZeroℤ (getD (r .losses) k (pos 0))) 1000 k (v .lossesUnused) h)
-        (rw (le-ltb (k % 50 + 1) (r .site .columns) past) (and-false (ltb (k / 50) (r .site .layers))))
+    loss-past = none-lost k h (inr past)
 
     across-past : getD (r .horizontal) k 0 ≡ 0
     unfolding zeroUnused isCell
@@ -113,6 +121,11 @@ module _ (r : Record) (v : Valid r) (rate dt : ℕ) where
     unfolding zeroUnused hasBelow
     down-past = unused-zero (usedSlot (hasBelow (r .site)) k) (getD (r .vertical) k 0) (all-at (λ k. usedSlot (hasBelow (r .site)) k || eqb (getD (r .vertical) k 0) 0) 1000 k (tests .2) h)
         (rw (le-ltb (k % 50 + 1) (r .site .columns) past) (and-false (ltb (suc (k / 50)) (r .site .layers))))
+
+    pub storage-past : getD (r .storages) k 0 ≡ 0
+    unfolding zeroUnused isCell
+    storage-past = unused-zero (usedSlot (isCell (r .site)) k) (getD (r .storages) k 0) (all-at (λ k. usedSlot (isCell (r .site)) k || eqb (getD (r .storages) k 0) 0) 1000 k (tests .3) h)
+        (rw (le-ltb (k % 50 + 1) (r .site .columns) past) (and-false (ltb (k / 50) (r .site .layers))))
 
     pub depth-past : depth a k ≡ pos 0
     unfolding depth depthAt depthOf
@@ -130,10 +143,6 @@ module _ (r : Record) (v : Valid r) (rate dt : ℕ) where
         none t = elim t [ true ↦ refl | false ↦ refl ]
 
   -- ---- D
-
-  slot-at : (i j : ℕ) → slot i (suc j) ≡ 50 * i + j
-  unfolding slot
-  slot-at i j = omega arith
 
   module _ (i j : ℕ) (hi : i < r .site .layers) (hj : suc j < r .site .columns) where
     pub loss-cell : lossAt vs (place (gridOf r) i (suc j)) ≡ getD (r .losses) (50 * i + j) (pos 0)

@@ -6,7 +6,7 @@ use mathlib.Core.Path.{_≡_, refl, sym, ap, ap₂, subst, _∙_}
 use mathlib.Core.Bool.{Bool, true, false, cond, _&&_, and-false}
 use mathlib.Core.Logic.{⊎-elim}
 use mathlib.Core.List.{List, [], _∷_, map, Memᴰ·map}
-use Prim.Native.Nat.{ℕ, zero, suc, _+_, _*_, _-_, _/_, _%_, _≤_, _<_, zero-le}
+use Prim.Native.Nat.{ℕ, zero, suc, _+_, _*_, _-_, _/_, _%_, _^_, _≤_, _<_, zero-le}
 use native.Mathlib.Nat.{le-trans, zero-add}
 use native.Mathlib.Omega.{arith}
 use lib.Dec.{eqb, ltb}
@@ -20,7 +20,7 @@ use Rattle.laws.specs.Integer.{regroup, pos-≤ℤ, not-past}
 use Rattle.laws.specs.Number.{below-or-not}
 use Rattle.laws.specs.Signed.{room-up}
 use Rattle.laws.specs.Sums.{ifℤ, sumℤ, range, sumℤ-ext, Room, mem-range, range-below, none-at, length-range, getD-map-range}
-use Rattle.network.specs.Limits.{rateLimit, lengthLimit, totalLimit, drawdownLimit}
+use Rattle.network.specs.Limits.{rateLimit, lengthLimit, storageLimit, totalLimit, drawdownLimit}
 use Rattle.network.specs.Network.{Network, State, isPlace, lossAt, drawdown, flow, outflow, lossAfter, lossesAfter, fromLastColumn, stable, tableTooDeep}
 use Rattle.network.specs.Grid.{place, storedColumns, layersOf, onePerPlace, acrossFace, downFace, networkOf}
 use Rattle.network.specs.laws.Bounds.{face-fits}
@@ -29,13 +29,14 @@ use Rattle.network.specs.laws.Conserve.{loss-after}
 use Rattle.network.specs.laws.Places.{place-below, place-cell}
 use Rattle.network.specs.laws.Proper.{across-mem, down-mem}
 use Rattle.network.specs.laws.Room.{cell-room, well-room, last-room}
+use Rattle.geometry.specs.Geometry.{wellStorage}
 use Rattle.site.specs.Laws.{LayerNumbers, numbers-hold}
 use Rattle.site.specs.Site.{isScreened}
 use Rattle.record.specs.declared.Record.{Record}
-use Rattle.record.specs.Record.{slots, isCell, gridOf, stateOf}
+use Rattle.record.specs.Record.{slot, slots, isCell, gridOf, stateOf}
 use Rattle.validity.specs.Laws.{Valid, valid-proper}
-use Rattle.worked.specs.Worked.{Lent, slotCount, depth, wellDepth, right, lower, fromWell, left, upper, toLast, lossAfter as slotAfter, wellAfter, inflowAfter, workedOf, Workable}
-use Rattle.bridge.specs.Flows.{lentOf, counted, loss-past, depth-past, right-past, lower-past, loss-cell, depth-column, depth-well, right-cell, lower-cell, from-well, left-cell, upper-cell, to-last}
+use Rattle.worked.specs.Worked.{Lent, slotCount, depth, wellDepth, right, lower, fromWell, left, upper, toLast, lossAfter as slotAfter, wellAfter, inflowAfter, lossesOf, Workable}
+use Rattle.bridge.specs.Flows.{lentOf, counted, slot-at, none-lost, loss-past, storage-past, depth-past, right-past, lower-past, loss-cell, depth-column, depth-well, right-cell, lower-cell, from-well, left-cell, upper-cell, to-last}
 
 -- lists over a range whose elements are the same
 map-same : {A : Type 0} (f g : ℕ → A) (k n : ℕ) → ((i : ℕ) → k ≤ i → i < k + n → f i ≡ g i) → map f (range k n) ≡ map g (range k n)
@@ -81,6 +82,18 @@ module _ (r : Record) (v : Valid r) (rate dt : ℕ) where
   loss-natural = by-slot (λ k. pos 0 ≤ℤ getD (r .losses) k (pos 0))
       (λ i j hi hj. rw (loss-cell r v rate dt i j hi hj) at (v .kept .losses (place (gridOf r) i (suc j)) (place-below (gridOf r) i j hi hj)))
       (λ k h past. rw (loss-past r v rate dt k h past) (pos-≤ℤ zero-le))
+
+  storage-small : (k : ℕ) → k < 50 * layers → getD (r .storages) k 0 < 2 ^ 63
+  unfolding gridOf
+  storage-small = by-slot (λ k. getD (r .storages) k 0 < 2 ^ 63)
+      (λ i j hi hj.
+      let most : getD (r .storages) (slot i (suc j)) 0 ≤ storageLimit = v .coefficients .storage i (suc j) hi (omega arith) hj .most in
+      omega (arith, rw (slot-at i j) at most))
+      (λ k h past. rw (storage-past r v rate dt k h past) (omega arith))
+
+  well-storage-small : r .«well_storage» < 2 ^ 63
+  unfolding wellStorage
+  well-storage-small = omega (arith, v .wellStorage, numbers-hold (r .site) (v .numbers) .well .area-most)
 
   depth-small : (k : ℕ) → k < 50 * layers → depth a k ≤ℤ pos drawdownLimit
   unfolding networkOf gridOf
@@ -150,6 +163,8 @@ module _ (r : Record) (v : Valid r) (rate dt : ℕ) where
       thickness = (omega (arith, top-layer .thickness-least), omega (arith, top-layer .thickness-most));
       rate = small;
       dt = short;
+      storages = storage-small;
+      wellStorage = well-storage-small;
       losses = loss-natural;
       depths = depth-small;
       table = table-shallow;
@@ -160,6 +175,8 @@ module _ (r : Record) (v : Valid r) (rate dt : ℕ) where
       cellRoom = λ k h lt. subst (λ n. Room totalLimit (getD (r .losses) n (pos 0)) (right a n ∷ lower a n ∷ negℤ (left a n) ∷ negℤ (upper a n) ∷ [])) (whole k) (cell-space (k / 50) (k % 50) (omega arith) (omega arith));
       wellRoom = well-space;
       lastRoom = last-space;
+      idle = λ k h past. let few : k < 1000 = omega (arith, counted r v rate dt .layers-most) in (depth-past r v rate dt k few past, lower-past r v rate dt k few past);
+      unused = none-lost r v rate dt;
     }
       where
         whole : (k : ℕ) → 50 * (k / 50) + k % 50 ≡ k
@@ -241,10 +258,10 @@ module _ (r : Record) (v : Valid r) (rate dt : ℕ) where
       filled : length (fill (50 * layers) (slotAfter a) z) ≡ 1000
       filled = length-fill (slotAfter a) z (50 * layers) ∙ long
 
-  pub worked-losses : workedOf a .losses ≡ slots after
-  unfolding workedOf
+  pub worked-losses : lossesOf a ≡ slots after
+  unfolding lossesOf
   worked-losses = slots-after (replicate 1000 (pos 0)) (length-replicate 1000 (pos 0)) (λ k. getD-same 1000 k (pos 0))
 
-  pub worked-cell : (i j : ℕ) → i < layers → suc j < columns → getD (workedOf a .losses) (50 * i + j) (pos 0) ≡ lossAt (lossesAfter N (s .losses) rate dt) (place (gridOf r) i (suc j))
-  unfolding workedOf
+  pub worked-cell : (i j : ℕ) → i < layers → suc j < columns → getD (lossesOf a) (50 * i + j) (pos 0) ≡ lossAt (lossesAfter N (s .losses) rate dt) (place (gridOf r) i (suc j))
+  unfolding lossesOf
   worked-cell = filled-cell (replicate 1000 (pos 0)) (length-replicate 1000 (pos 0))

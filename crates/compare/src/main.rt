@@ -2,6 +2,7 @@
 use libc::STDOUT_FILENO;
 use record::Outcome;
 use record::Record;
+use repeat::Repeated;
 use scenario::Pumping;
 use sections::Entry;
 
@@ -155,6 +156,48 @@ fn print_states(text: &[u8], heads: bool) {
     }
 }
 
+// One line for so many equal steps: the number of the entry, what became of them, how many were taken, and the record's checksum.
+fn print_run(number: u64, repeated: Repeated) {
+    io::write_all(STDOUT_FILENO, b"run");
+    print_word(number);
+    let outcome = repeated.outcome;
+    let rec = repeated.record;
+    match outcome {
+        Outcome::Refused(refusal) => {
+            io::write_all(STDOUT_FILENO, b" refused");
+            print_word(refusal);
+        }
+        Outcome::Taken => {
+            io::write_all(STDOUT_FILENO, b" taken");
+        }
+    }
+    print_word(repeated.taken);
+    print_word(checksum::checksum_of(rec));
+    print_line_end();
+}
+
+// No step, as entry 0, and then the pumping entries, each run at once.
+fn print_runs(text: &[u8]) {
+    let answer = scenario::start(text);
+    let outcome = answer.outcome;
+    if let Outcome::Refused(_) = outcome {
+        return;
+    }
+    let mut rec = answer.record;
+    print_run(0, repeat::repeat(rec, 0, 0, 0));
+    let mut number: u64 = 1;
+    while number <= 500 {
+        let found = scenario::pumping_entry(text, number);
+        let Pumping::Found(entry) = found else {
+            return;
+        };
+        let repeated = repeat::repeat(rec, entry.rate, entry.length, entry.repeats);
+        print_run(number, repeated);
+        rec = repeated.record;
+        number += 1;
+    }
+}
+
 // The text of the file that argument i names.
 fn compare(i: usize) {
     let mut path = io::buffer();
@@ -174,6 +217,7 @@ fn compare(i: usize) {
     print_entries(&text[..got]);
     print_states(&text[..got], false);
     print_states(&text[..got], true);
+    print_runs(&text[..got]);
     printing::print_listing(&text[..got]);
 }
 

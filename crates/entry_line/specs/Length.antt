@@ -11,6 +11,7 @@ use lib.IntN.{ℤ, natAbs}
 use lib.ListN.{length, length-append}
 use Rattle.laws.specs.Every.{every}
 use Rattle.laws.specs.Integer.{UpTo, abs-up-to}
+use Rattle.laws.specs.Refusal.{first-most}
 use Rattle.decimal.specs.Decimal.{digitsOf}
 use Rattle.decimal.specs.Laws.{few-digits}
 use Rattle.network.specs.Limits.{lengthLimit}
@@ -27,7 +28,7 @@ use Rattle.readings.specs.Readings.{amountOf, balanceOf, isNamed, drawdownOf, b
 use Rattle.lines.specs.Word.{word}
 use Rattle.lines.specs.Lines.{lineFrom, figureOf}
 use Rattle.lines.specs.Laws.{figure-natural}
-use Rattle.runs.specs.Bounded.{mostRefusal, first-most, Bounded}
+use Rattle.runs.specs.Bounded.{mostRefusal, Bounded}
 use Rattle.entry_line.specs.EntryLine.{refusedLine, figuresLine, readingsLine, entryLine}
 use Rattle.entry_line.specs.Figures.{Figures, figures-read}
 

@@ -5,7 +5,7 @@
 --     one-is to unconfined-is     the face that leads from one end to another; then its water in a step that 7 and 8 allow
 -- Assumes nothing.
 use mathlib.Core.Path.{_≡_, refl, sym, ap, ap₂, _∙_}
-use mathlib.Core.Bool.{Bool, true, false, not, _&&_, _||_, and-false, true≢false}
+use mathlib.Core.Bool.{Bool, true, false, _&&_, _||_, and-false, true≢false}
 use mathlib.Core.Logic.{⊎-elim}
 use mathlib.Core.List.{List}
 use Prim.Native.Nat.{ℕ, zero, suc, _+_, _*_, _-_, _^_, _≤_, _<_, zero-le}
@@ -17,7 +17,7 @@ use lib.Dec.{eqb, leb, ltb}
 use lib.IntN.{ℤ, pos, natAbs}
 use lib.ListN.{getD, List·getD-eq-default}
 use lib.Signed.{_≤ℤ_, ltZ}
-use borrow.Author.Tests.{eqb-true, leb-true, ltb-true, le-leb, eq-eqb, ne-eqb, not-true}
+use borrow.Author.Tests.{eqb-true, leb-true, ltb-true, le-leb, eq-eqb, ne-eqb}
 use mir.Syntax.{w64}
 use mir.Val.{SFits, toZ, ofZ}
 use mir.Facts.{toZ-ofZ}
@@ -25,7 +25,7 @@ use Rattle.laws.specs.All.{and-left, and-right}
 use Rattle.laws.specs.Integer.{pos-≤ℤ, ≤ℤ-pos, not-past}
 use Rattle.laws.specs.Number.{below-or-not}
 use Rattle.laws.specs.Rows.{same-test, both-hold, three-hold, four-hold}
-use Rattle.laws.specs.Signed.{small-fits, room-fits}
+use Rattle.laws.specs.Signed.{small-fits}
 use Rattle.laws.specs.Sums.{none-at}
 use Rattle.network.specs.Limits.{lengthLimit, totalLimit, drawdownLimit}
 use Rattle.network.specs.Network.{Face, Network, lossAt, drawdown, saturated, inUse, water, crossing, flow, stable, tableTooDeep}
@@ -35,17 +35,17 @@ use Rattle.network.specs.laws.Bounds.{face-fits}
 use Rattle.network.specs.laws.Places.{place-below, place-well}
 use Rattle.site.specs.declared.Site.{Site}
 use Rattle.site.specs.Laws.{Counts, LayerNumbers, numbers-hold}
-use Rattle.site.specs.Site.{isScreened, screenLayer, screenTop, screenHolds}
+use Rattle.site.specs.Site.{isScreened}
 use Rattle.record.specs.declared.Record.{Record}
 use Rattle.record.specs.Record.{slot, acrossIn, gridOf, stateOf}
 use Rattle.validity.specs.Laws.{Valid, valid-proper}
 use Rattle.flows.specs.Flows.{depthOf, depthAt, reducedC}
 use Rattle.worked.specs.Worked.{depth, wellDepth}
-use Rattle.bridge.specs.Flows.{counted, loss-past, loss-cell, depth-column, depth-well}
-use Rattle.bridge.specs.Worked.{workable}
+use Rattle.bridge.specs.Flows.{slot-at, counted, dry, loss-past, loss-cell, depth-column, depth-well}
 use Rattle.readings.specs.declared.Place.{Place}
 use Rattle.readings.specs.declared.Place.the-variants.{Well, Cell}
 use Rattle.readings.specs.Readings.{isLayer, isStored, numberOf, leads, faceFrom}
+use Rattle.readings.specs.Laws.{well-back}
 use Rattle.face_flow.specs.Ends.{inSlots, lossEnd, storageEnd, conductanceFrom, onTable, inUseFrom}
 use Rattle.face_flow.specs.Laws.{Led, screen, across, down, face-listed}
 
@@ -139,10 +139,6 @@ ends G h (screen {k} {l} k₁ k₂ s e) = (well, cell k l k₁ k₂ (omega arith
 ends G h (across {i} {j} {k} {l} i₁ i₂ j₁ j₂ e f) = (cell i j i₁ i₂ j₁ (omega arith), cell k l (omega arith) (omega arith) (omega arith) (omega arith))
 ends G h (down {i} {j} {k} {l} i₁ i₂ j₁ j₂ e f) = (cell i j i₁ (omega arith) j₁ (omega arith), cell k l (omega arith) (omega arith) (omega arith) (omega arith))
 
-slot-at : (i j : ℕ) → slot i (suc j) ≡ 50 * i + j
-unfolding slot
-slot-at i j = omega arith
-
 module _ (r : Record) (v : Valid r) where
   abbrev G : Grid
   G = gridOf r
@@ -196,10 +192,9 @@ module _ (r : Record) (v : Valid r) where
       (λ h. rw (depth-outside p h) (pos-≤ℤ zero-le))
       o
 
-  -- layer 1 has no screen
-  dry : G .screened 0 ≡ false
-  unfolding screenHolds gridOf
-  dry = not-true _ (three-hold (ltb (screenLayer (r .site)) (r .site .layers)) (not (isScreened (r .site .screened) 0)) (ltb (r .site .intake) (screenTop (r .site))) (v .screen) .1)
+  dry-top : G .screened 0 ≡ false
+  unfolding gridOf
+  dry-top = dry r v 0 0
 
   top-layer : LayerNumbers (r .site) 0
   top-layer = numbers-hold (r .site) (v .numbers) .layer 0 (omega (arith, counts .layers-least))
@@ -230,7 +225,7 @@ module _ (r : Record) (v : Valid r) where
 
   unconfined-is : {a b : Place} → Led G a b → faceFrom G a b .unconfined ≡ onTable a b
   unfolding faceFrom acrossFace downFace onTable
-  unconfined-is (screen {k} k₁ k₂ s e) = ne-eqb (k - 1) 0 (λ q. true≢false (sym s ∙ ap (G .screened) q ∙ dry))
+  unconfined-is (screen {k} k₁ k₂ s e) = ne-eqb (k - 1) 0 (λ q. true≢false (sym s ∙ ap (G .screened) q ∙ dry-top))
   unconfined-is (across {i} {j} {k} i₁ i₂ j₁ j₂ e f) = rw (eq-eqb k i e) (same-test _ _
       (λ q. both-hold (eq-eqb i 1 (omega (arith, eqb-true (i - 1) 0 q))) (eq-eqb k 1 (omega (arith, eqb-true (i - 1) 0 q))))
       (λ q. eq-eqb (i - 1) 0 (omega (arith, eqb-true i 1 (and-left (eqb i 1) (eqb k 1) q)))))
@@ -246,12 +241,9 @@ module _ (r : Record) (v : Valid r) where
     abbrev f : Face
     f = faceFrom G a b
 
-    pub well-back : toZ w64 (ofZ w64 (r .«well_loss»)) ≡ r .«well_loss»
-    well-back = toZ-ofZ (room-fits (workable r v 0 dt st zero-le short .wellRoom) (omega arith))
-
     -- D as `drawdown_at` gives it
     pub depth-back : {e : Place} → End G e → (n : ℕ) → pos n ≡ depthOf (lossEnd (r .losses) (toZ w64 (ofZ w64 (r .«well_loss»))) e) (storageEnd (r .storages) (r .«well_storage») e) → pos n ≡ drawdown N vs (numberOf G e)
-    depth-back h n q = (rw well-back at q) ∙ depth-end h
+    depth-back h n q = (rw (well-back r v) at q) ∙ depth-end h
 
     pub flow-small : natAbs (flow N vs dt f) ≤ totalLimit
     unfolding networkOf

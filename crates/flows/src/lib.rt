@@ -8,9 +8,10 @@ ghost use lib.IntN.{pos, natAbs};
 ghost use lib.Signed.{_≤ℤ_};
 ghost use lib.ListN.{getD, replicate};
 ghost use Rattle.laws.specs.Fill.{fill};
+ghost use Rattle.laws.specs.Span.{span, spans};
 ghost use Rattle.network.specs.Limits.{lengthLimit, totalLimit, drawdownLimit};
 ghost use Rattle.network.specs.Network.{water};
-ghost use Rattle.flows.specs.Flows.{depthOf, depthAt, reducedC, reducedAt, flowAt, screenAt};
+ghost use Rattle.flows.specs.Flows.{depthOf, depthAt, reducedC, reducedAt, flowAt};
 use words::divide::quotient_word;
 
 // D of a place that has lost v from the storage s.
@@ -53,25 +54,24 @@ pub fn reduced(c: u64, here: u64, next: u64, thickness: u64, divisor: u64) -> u6
     quotient_word(c, (full - here) + (full - next), divisor)
 }
 
-// C in use of every horizontal face: in layer 1, whose faces are those of the first `faces` slots, it is reduced.
+// C in use of the horizontal faces of layer 1, which are those of the first `faces` slots; the other slots stay.
 pub fn in_use<'a>(
     horizontal: &'a [u64; 1000],
     depths: &'a [u64; 1000],
     thickness: u64,
     faces: usize,
-) -> [u64; 1000]
+    conductances: &mut [u64; 1000],
+)
     requires { ⌜ (faces ≤ 49) × (0 < thickness) × (2000 * thickness < 2 ^ 64) ⌝ }
     requires { ⌜ ((k : ℕ) → k ≤ faces → getD (now depths) k 0 ≤ 1000 * thickness) ⌝ }
-    ensures { λ r. ⌜ map pos r ≡ fill faces (reducedAt thickness (now (horizontal .entry)) (now (depths .entry))) (map pos (now (horizontal .entry))) ⌝ }
+    ensures { λ r. ⌜ map pos (now (conductances .exit)) ≡ fill faces (reducedAt thickness (now (horizontal .entry)) (now (depths .entry))) (map pos (now (conductances .entry))) ⌝ }
 {
     let divisor = 2000 * thickness;
-    let mut out = *horizontal;
     let mut k: usize = 0;
     while k < faces {
-        out[k] = reduced(horizontal[k], depths[k], depths[k + 1], thickness, divisor);
+        conductances[k] = reduced(horizontal[k], depths[k], depths[k + 1], thickness, divisor);
         k += 1;
     }
-    out
 }
 
 // Water that crosses a face from drawdown `here` to drawdown `next` in dt.
@@ -87,46 +87,45 @@ pub fn crossing(c: u64, here: u64, next: u64, dt: u64) -> i64
     }
 }
 
-// Water from each of the first `faces` slots to the slot `ahead` of it: 1 for the next column, 50 for the layer below.
-pub fn flows<'a>(
-    conductances: &'a [u64; 1000],
+// Water from `width` cells of a layer, the first of them in slot `start`, to the layer below.
+fn down_row<'a>(
+    vertical: &'a [u64; 1000],
     depths: &'a [u64; 1000],
-    ahead: usize,
-    faces: usize,
+    start: usize,
+    width: usize,
     dt: u64,
-) -> [i64; 1000]
-    requires { ⌜ (faces + ahead ≤ 1000) × (dt ≤ lengthLimit) ⌝ }
+    down: &mut [i64; 1000],
+)
+    requires { ⌜ (start + width + 50 ≤ 1000) × (dt ≤ lengthLimit) ⌝ }
     requires { ⌜ ((k : ℕ) → getD (now depths) k 0 ≤ drawdownLimit) ⌝ }
-    requires { ⌜ ((k : ℕ) → k < faces → natAbs (flowAt (now conductances) (now depths) ahead dt k) ≤ totalLimit) ⌝ }
-    ensures { λ r. ⌜ r ≡ fill faces (flowAt (now (conductances .entry)) (now (depths .entry)) ahead dt) (replicate 1000 (pos 0)) ⌝ }
+    requires { ⌜ ((n : ℕ) → n < width → natAbs (flowAt (now vertical) (now depths) 50 dt (start + n)) ≤ totalLimit) ⌝ }
+    ensures { λ r. ⌜ now (down .exit) ≡ span start width (flowAt (now (vertical .entry)) (now (depths .entry)) 50 dt) (now (down .entry)) ⌝ }
 {
-    let mut out: [i64; 1000] = [0; 1000];
-    let mut k: usize = 0;
-    while k < faces {
-        out[k] = crossing(conductances[k], depths[k], depths[k + ahead], dt);
-        k += 1;
+    let mut n: usize = 0;
+    while n < width {
+        let k = start + n;
+        down[k] = crossing(vertical[k], depths[k], depths[k + 50], dt);
+        n += 1;
     }
-    out
 }
 
-// Water from the well, at drawdown `well`, to column 1 of each layer.
-pub fn screen_flows<'a>(
-    screen: &'a [u64; 20],
-    well: u64,
+// Water from each cell of the first `layers` layers, in `stored` columns, to the layer below; the other slots stay.
+pub fn down_flows<'a>(
+    vertical: &'a [u64; 1000],
     depths: &'a [u64; 1000],
     layers: usize,
+    stored: usize,
     dt: u64,
-) -> [i64; 20]
-    requires { ⌜ (layers ≤ 20) × (well ≤ drawdownLimit) × (dt ≤ lengthLimit) ⌝ }
+    down: &mut [i64; 1000],
+)
+    requires { ⌜ (layers ≤ 19) × (stored ≤ 50) × (dt ≤ lengthLimit) ⌝ }
     requires { ⌜ ((k : ℕ) → getD (now depths) k 0 ≤ drawdownLimit) ⌝ }
-    requires { ⌜ ((i : ℕ) → i < layers → natAbs (screenAt (now screen) well (now depths) dt i) ≤ totalLimit) ⌝ }
-    ensures { λ r. ⌜ r ≡ fill layers (screenAt (now (screen .entry)) well (now (depths .entry)) dt) (replicate 20 (pos 0)) ⌝ }
+    requires { ⌜ ((k : ℕ) → k < 50 * layers → natAbs (flowAt (now vertical) (now depths) 50 dt k) ≤ totalLimit) ⌝ }
+    ensures { λ r. ⌜ now (down .exit) ≡ spans stored layers (flowAt (now (vertical .entry)) (now (depths .entry)) 50 dt) (now (down .entry)) ⌝ }
 {
-    let mut out: [i64; 20] = [0; 20];
     let mut i: usize = 0;
     while i < layers {
-        out[i] = crossing(screen[i], well, depths[50 * i], dt);
+        down_row(vertical, depths, 50 * i, stored, dt, down);
         i += 1;
     }
-    out
 }

@@ -11,15 +11,11 @@ use lib.IntN.{ℤ, pos, negℤ}
 use lib.ListN.{getD}
 use lib.Signed.{_≤ℤ_}
 use borrow.Author.Tests.{leb-true, ltb-false}
-use mir.Syntax.{w64}
-use mir.Val.{toZ, ofZ}
-use mir.Facts.{toZ-ofZ}
 use Rattle.laws.specs.Fill.{fill, getD-fill}
 use Rattle.laws.specs.Integer.{≤ℤ-pos}
 use Rattle.laws.specs.Refusal.{first-is}
 use Rattle.laws.specs.Refusal.First.{none, hit, skip}
 use Rattle.laws.specs.Rows.{three-hold}
-use Rattle.laws.specs.Signed.{room-fits}
 use Rattle.laws.specs.Sums.{ifℤ, or-no}
 use Rattle.network.specs.Limits.{lengthLimit, drawdownLimit}
 use Rattle.network.specs.Network.{Network, flow, lengthOut, stable, unstable}
@@ -131,9 +127,6 @@ module _ (r : Record) (layer dt : ℕ) where
     -- a step at rate 0, of which the reading needs the drawdowns and the well's faces
     works : Workable (lentOf r 0 dt)
     works = workable r v 0 dt (sym (stable-is (b .passed)) ∙ b .steady) (omega arith) short
-
-    pub well-back : toZ w64 (ofZ w64 (r .«well_loss»)) ≡ r .«well_loss»
-    well-back = toZ-ofZ (room-fits (works .wellRoom) (omega arith))
 
     pub well-asks : (pos 0 ≤ℤ r .«well_loss») × (depthOf (r .«well_loss») (r .«well_storage») ≤ℤ pos drawdownLimit)
     unfolding wellDepth

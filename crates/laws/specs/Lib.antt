@@ -11,4 +11,5 @@ pub mod Refusal
 pub mod RowSums
 pub mod Rows
 pub mod Signed
+pub mod Span
 pub mod Sums

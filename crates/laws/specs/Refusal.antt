@@ -6,15 +6,16 @@
 --     numbered ts     no test has the number 0, so that 0 says that none holds; numbered-append: nor has one of two lists put together
 --     first-before    tests a and then b: where a test of a holds, it is the first; first-after: else it is the first of b
 --     first-none      where none of all holds, none of a does
+--     first-most      a bound on the numbers of the tests is one on the first that holds
 -- Assumes nothing.
 use mathlib.Core.Path.{_≡_, refl, sym, _∙_}
 use mathlib.Core.Bool.{Bool, true, false, cond}
 use mathlib.Core.List.{List, [], _∷_, _++_}
-use Prim.Native.Nat.{ℕ, suc}
+use Prim.Native.Nat.{ℕ, suc, _≤_}
 use native.Mathlib.Decide.{ℕ-discrete}
 use native.Mathlib.Omega.{arith}
-use lib.Dec.{ltb}
-use borrow.Author.Tests.{ltb-true}
+use lib.Dec.{leb, ltb}
+use borrow.Author.Tests.{ltb-true, leb-true}
 use Rattle.laws.specs.All.{and-left, and-right}
 use Rattle.laws.specs.Every.{every, every-append}
 
@@ -62,3 +63,9 @@ first-none a b e = elim (ℕ-discrete (first a) 0) [ yes z ↦ z | no f ↦ absu
 pub numbered-append : (a b : List (Bool × ℕ)) → numbered a ≡ true → numbered b ≡ true → numbered (a ++ b) ≡ true
 unfolding numbered
 numbered-append a b p q = every-append (λ t. ltb 0 (t .1)) a b ∙ rw (p, q)
+
+pub first-most : (m : ℕ) (ts : List (Bool × ℕ)) → every (λ t. leb (t .1) m) ts ≡ true → first ts ≤ m
+unfolding first every
+first-most m [] e = omega arith
+first-most m ((true, n) ∷ ts) e = leb-true n m (and-left (leb n m) (every (λ t. leb (t .1) m) ts) e)
+first-most m ((false, n) ∷ ts) e = first-most m ts (and-right (leb n m) (every (λ t. leb (t .1) m) ts) e)

@@ -20,8 +20,8 @@ use Rattle.record.specs.declared.Record.{Record}
 use Rattle.record.specs.declared.Outcome.{Outcome}
 use Rattle.record.specs.Record.{gridOf, stateOf, outcomeOf, answerOf}
 use Rattle.validity.specs.Laws.{valid-record}
-use Rattle.step.specs.Step.{withState, stepRefusal, stepOf}
-use Rattle.step.specs.Laws.{same-network, same-state, step-valid}
+use Rattle.stepping.specs.Step.{withState, stepRefusal, stepOf}
+use Rattle.stepping.specs.Laws.{same-network, same-state, step-valid}
 use Rattle.beginning.specs.Laws.{Carries}
 use Rattle.ledger.specs.Calls.{Reading, drawdown, budget, loss, flow, deep, same, sameAs, headLoss, Call, step, read, Reply, Gives, left, leftByAll, Run, none, then}
 use Rattle.ledger.specs.Ledger.{afterCall, afterCalls, outcomesFrom}

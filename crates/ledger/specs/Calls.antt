@@ -6,7 +6,7 @@ use mathlib.Core.List.{List, [], _∷_}
 use Prim.Native.Nat.{ℕ}
 use Rattle.record.specs.declared.Record.{Record}
 use Rattle.record.specs.declared.Answer.{Answer}
-use Rattle.step.specs.Step.{stepOf}
+use Rattle.stepping.specs.Step.{stepOf}
 use Rattle.readings.specs.declared.Place.{Place}
 use Rattle.readings.specs.declared.Amount.{Amount}
 use Rattle.readings.specs.declared.Balance.{Balance}

@@ -14,6 +14,7 @@ use native.Mathlib.Omega.{arith}
 use lib.Dec.{lit≤}
 use lib.ListN.{length, take, length-append}
 use Rattle.laws.specs.Every.{every}
+use Rattle.laws.specs.Refusal.{first-most}
 use Rattle.laws.specs.Sums.{range}
 use Rattle.decimal.specs.Decimal.{digitsOf}
 use Rattle.decimal.specs.Laws.{few-digits}
@@ -31,7 +32,7 @@ use Rattle.lines.specs.declared.Line.{Line}
 use Rattle.lines.specs.Word.{word}
 use Rattle.lines.specs.Lines.{lineFeed, lineFrom, lineBytes, held}
 use Rattle.lines.specs.Laws.{take-padded}
-use Rattle.runs.specs.Bounded.{mostRefusal, first-most, Bounded, run-bounded}
+use Rattle.runs.specs.Bounded.{mostRefusal, Bounded, run-bounded}
 use Rattle.entry_line.specs.EntryLine.{entryLine}
 use Rattle.entry_line.specs.Length.{entry-short}
 use Rattle.listing.specs.declared.Piece.{Piece}

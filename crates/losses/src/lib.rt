@@ -1,34 +1,24 @@
-// Losses and the inflow total after a step, from those at its start and the water of every face: arrays by slot, lent and filled.
-// Slot 50×i + j of an array of 1,000 is for layer i + 1 and column j + 1 of document 01, as in the record. V and water are in nl.
-// `across` is the water from a slot to the next column, `down` to the layer below, `screen` from the well to column 1 of a layer.
+// Losses and the inflow total after a step, from the drawdowns and the losses at its start: arrays by slot, lent and filled.
+// Slot 50×i + j of an array of 1,000 is for layer i + 1 and column j + 1 of document 01, as in the record. C is in 10^-12 m²/s, D in µm, V and
+// water in nl, times in µs. `down` is the water from a slot to the layer below.
 ghost use mathlib.Core.Path.{_≡_};
 ghost use mathlib.Core.List.{[], _∷_, map};
-ghost use Prim.Native.Nat.{ℕ, _+_, _*_, _≤_, _<_};
+ghost use Prim.Native.Nat.{ℕ, _+_, _*_, _-_, _%_, _≤_, _<_};
 ghost use lib.IntN.{pos, negℤ, natAbs, _+ℤ_, _-ℤ_};
-ghost use lib.ListN.{getD, replicate};
-ghost use Rattle.laws.specs.Fill.{fill};
-ghost use Rattle.laws.specs.Sums.{sumℤ, range, Room};
-ghost use Rattle.network.specs.Limits.{rateLimit, lengthLimit, totalLimit};
-ghost use Rattle.losses.specs.Losses.{leftAt, upperAt, lossAt, CellRoom, wellLimit};
+ghost use lib.ListN.{getD};
+ghost use Rattle.laws.specs.Span.{span, spans};
+ghost use Rattle.laws.specs.Sums.{range, Room};
+ghost use Rattle.network.specs.Limits.{rateLimit, lengthLimit, totalLimit, drawdownLimit};
+ghost use Rattle.flows.specs.Flows.{flowAt, screenAt};
+ghost use Rattle.losses.specs.Losses.{upperAt, rowLeft, rowLoss, RowRoom, lossAt, CellRoom, wellLimit, sweptOf};
+use flows::crossing;
 
-// Water to slot k from the column before it, which for column 1 is the well.
-fn left<'a>(across: &'a [i64; 1000], screen: &'a [i64; 20], k: usize) -> i64
-    requires { ⌜ k < 1000 ⌝ }
-    ensures { λ r. ⌜ r ≡ leftAt (now (across .entry)) (now (screen .entry)) k ⌝ }
-{
-    if k % 50 == 0 {
-        screen[k / 50]
-    } else {
-        across[k - 1]
-    }
-}
-
-// Water to slot k from the layer above.
-fn upper(down: &[i64; 1000], k: usize) -> i64
-    requires { ⌜ k < 1000 ⌝ }
+// Water to slot k from the layer above; the top layer, whose first slot is 0, has none.
+fn upper(down: &[i64; 1000], start: usize, k: usize) -> i64
+    requires { ⌜ (k < 1000) × (start ≡ 0 → k < 50) × (0 < start → 50 ≤ k) ⌝ }
     ensures { λ r. ⌜ r ≡ upperAt (now (down .entry)) k ⌝ }
 {
-    if 50 <= k { down[k - 50] } else { 0 }
+    if start == 0 { 0 } else { down[k - 50] }
 }
 
 // V of a place with what leaves it and without what comes to it.
@@ -39,82 +29,96 @@ fn changed(v: i64, right: i64, lower: i64, left: i64, upper: i64) -> i64
     v + right + lower - left - upper
 }
 
-// V of slot k after the step; nothing is stored from the last column on.
-fn loss<'a>(
-    losses: &'a [i64; 1000],
-    across: &'a [i64; 1000],
+// V after the step of `width` cells of a layer, the first of them in slot `start`, to which water comes `from_well`; what V was is kept in
+// `before`. It gives the water of the layer's last face, that with the last column.
+fn row<'a>(
+    conductances: &'a [u64; 1000],
+    depths: &'a [u64; 1000],
     down: &'a [i64; 1000],
-    screen: &'a [i64; 20],
-    columns: usize,
-    k: usize,
+    start: usize,
+    width: usize,
+    from_well: i64,
+    dt: u64,
+    losses: &mut [i64; 1000],
+    before: &mut [i64; 1000],
 ) -> i64
-    requires { ⌜ k < 1000 ⌝ }
-    requires { ⌜ CellRoom columns (now losses) (now across) (now down) (now screen) k ⌝ }
-    ensures { λ r. ⌜ r ≡ lossAt columns (now (losses .entry)) (now (across .entry)) (now (down .entry)) (now (screen .entry)) k ⌝ }
+    requires { ⌜ (start % 50 ≡ 0) × (width < 50) × (start + width < 1000) × (dt ≤ lengthLimit) ⌝ }
+    requires { ⌜ ((k : ℕ) → getD (now depths) k 0 ≤ drawdownLimit) ⌝ }
+    requires { ⌜ ((n : ℕ) → n < width → RowRoom start «from_well» (now losses) (now down) (flowAt (now conductances) (now depths) 1 dt) (start + n)) ⌝ }
+    ensures { λ r. ⌜ r ≡ rowLeft start «from_well» (flowAt (now (conductances .entry)) (now (depths .entry)) 1 dt) (start + width) ⌝ }
+    ensures { λ r. ⌜ now (losses .exit) ≡ span start width (rowLoss start «from_well» (now (losses .entry)) (now (down .entry)) (flowAt (now (conductances .entry)) (now (depths .entry)) 1 dt)) (now (losses .entry)) ⌝ }
+    ensures { λ r. ⌜ now (before .exit) ≡ span start width (λ k. getD (now (losses .entry)) k (pos 0)) (now (before .entry)) ⌝ }
 {
-    if k % 50 + 1 < columns {
-        changed(
-            losses[k],
-            across[k],
-            down[k],
-            left(across, screen, k),
-            upper(down, k),
-        )
-    } else {
-        0
+    let mut left = from_well;
+    let mut n: usize = 0;
+    while n < width {
+        let k = start + n;
+        let right = crossing(conductances[k], depths[k], depths[k + 1], dt);
+        let v = losses[k];
+        before[k] = v;
+        losses[k] = changed(v, right, down[k], left, upper(down, start, k));
+        left = right;
+        n += 1;
     }
+    left
 }
 
-// V of the first `cells` slots after the step.
-pub fn losses_after<'a>(
-    losses: &'a [i64; 1000],
-    across: &'a [i64; 1000],
+// V of the well and the inflow total after the step.
+pub struct Swept {
+    pub well_loss: i64,
+    pub inflow: i64,
+}
+
+// V of each cell after the step, in `layers` layers and `stored` columns, and in `before` what it was; the other slots stay. `well` is D of the
+// well at the step's start, and `well_loss` its V with what is pumped.
+pub fn sweep<'a>(
+    screen: &'a [u64; 20],
+    conductances: &'a [u64; 1000],
+    depths: &'a [u64; 1000],
     down: &'a [i64; 1000],
-    screen: &'a [i64; 20],
-    columns: usize,
-    cells: usize,
-) -> [i64; 1000]
-    requires { ⌜ cells ≤ 1000 ⌝ }
-    requires { ⌜ ((k : ℕ) → k < cells → CellRoom columns (now losses) (now across) (now down) (now screen) k) ⌝ }
-    ensures { λ r. ⌜ r ≡ fill cells (lossAt columns (now (losses .entry)) (now (across .entry)) (now (down .entry)) (now (screen .entry))) (replicate 1000 (pos 0)) ⌝ }
+    layers: usize,
+    stored: usize,
+    well: u64,
+    well_loss: i64,
+    inflow: i64,
+    dt: u64,
+    losses: &mut [i64; 1000],
+    before: &mut [i64; 1000],
+) -> Swept
+    requires { ⌜ (layers ≤ 20) × (1 ≤ stored) × (stored ≤ 49) × (well ≤ drawdownLimit) × (dt ≤ lengthLimit) ⌝ }
+    requires { ⌜ ((k : ℕ) → getD (now depths) k 0 ≤ drawdownLimit) ⌝ }
+    requires { ⌜ ((k : ℕ) → k < 50 * layers → k % 50 < stored → CellRoom (now losses) (now down) (flowAt (now conductances) (now depths) 1 dt) (screenAt (now screen) well (now depths) dt) k) ⌝ }
+    requires { ⌜ ((i : ℕ) → i < layers → natAbs (screenAt (now screen) well (now depths) dt i) ≤ totalLimit) ⌝ }
+    requires { ⌜ Room wellLimit «well_loss» (map (screenAt (now screen) well (now depths) dt) (range 0 layers)) ⌝ }
+    requires { ⌜ Room totalLimit inflow (map (λ i. negℤ (flowAt (now conductances) (now depths) 1 dt (50 * i + (stored - 1)))) (range 0 layers)) ⌝ }
+    ensures { λ r. ⌜ r ≡ sweptOf layers stored «well_loss» inflow (flowAt (now (conductances .entry)) (now (depths .entry)) 1 dt) (screenAt (now (screen .entry)) well (now (depths .entry)) dt) ⌝ }
+    ensures { λ r. ⌜ now (losses .exit) ≡ spans stored layers (lossAt (now (losses .entry)) (now (down .entry)) (flowAt (now (conductances .entry)) (now (depths .entry)) 1 dt) (screenAt (now (screen .entry)) well (now (depths .entry)) dt)) (now (losses .entry)) ⌝ }
+    ensures { λ r. ⌜ now (before .exit) ≡ spans stored layers (λ k. getD (now (losses .entry)) k (pos 0)) (now (before .entry)) ⌝ }
 {
-    let mut out: [i64; 1000] = [0; 1000];
-    let mut k: usize = 0;
-    while k < cells {
-        out[k] = loss(losses, across, down, screen, columns, k);
-        k += 1;
-    }
-    out
-}
-
-// V of the well, as it is with what is pumped, after water has left it for the layers.
-pub fn with_screen(v: i64, screen: &[i64; 20], layers: usize) -> i64
-    requires { ⌜ layers ≤ 20 ⌝ }
-    requires { ⌜ Room wellLimit v (map (λ i. getD (now screen) i (pos 0)) (range 0 layers)) ⌝ }
-    ensures { λ r. ⌜ r ≡ v +ℤ sumℤ (range 0 layers) (λ i. getD (now (screen .entry)) i (pos 0)) ⌝ }
-{
-    let mut sum = v;
+    let mut loss = well_loss;
+    let mut total = inflow;
     let mut i: usize = 0;
     while i < layers {
-        sum += screen[i];
+        let start = 50 * i;
+        let from_well = crossing(screen[i], well, depths[start], dt);
+        loss += from_well;
+        total -= row(
+            conductances,
+            depths,
+            down,
+            start,
+            stored,
+            from_well,
+            dt,
+            losses,
+            before,
+        );
         i += 1;
     }
-    sum
-}
-
-// The inflow total with the water from the last column, which crosses the face of slot `last` of each layer.
-pub fn with_last_column(inflow: i64, across: &[i64; 1000], last: usize, layers: usize) -> i64
-    requires { ⌜ (layers ≤ 20) × (last < 50) ⌝ }
-    requires { ⌜ Room totalLimit inflow (map (λ i. negℤ (getD (now across) (50 * i + last) (pos 0))) (range 0 layers)) ⌝ }
-    ensures { λ r. ⌜ r ≡ inflow +ℤ sumℤ (range 0 layers) (λ i. negℤ (getD (now (across .entry)) (50 * i + last) (pos 0))) ⌝ }
-{
-    let mut sum = inflow;
-    let mut i: usize = 0;
-    while i < layers {
-        sum -= across[50 * i + last];
-        i += 1;
+    Swept {
+        well_loss: loss,
+        inflow: total,
     }
-    sum
 }
 
 // V of the well with what is pumped: ml/s × µs is nl.

@@ -1,10 +1,9 @@
 -- Bounds on a run: laws only, nothing to believe.
---     first-most       a bound on the numbers of tests is one on the first that holds
 --     Bounded          a bound on the time of an answer and on the number of its refusal
 --     run-bounded      that of a run: each step is at most 10^9 µs
 -- Assumes nothing.
-use mathlib.Core.Path.{_≡_, refl}
-use mathlib.Core.Bool.{Bool, true, false, not}
+use mathlib.Core.Path.{_≡_, refl, _∙_}
+use mathlib.Core.Bool.{Bool, true, false, not, cond}
 use mathlib.Core.List.{List, [], _∷_}
 use Prim.Native.Nat.{ℕ, zero, suc, _+_, _*_, _≤_}
 use native.Mathlib.Nat.{le-trans}
@@ -13,7 +12,7 @@ use borrow.Author.Tests.{ltb-false, leb-true}
 use lib.Dec.{leb, ltb, eqb}
 use Rattle.laws.specs.All.{and-left, and-right}
 use Rattle.laws.specs.Every.{every}
-use Rattle.laws.specs.Refusal.{first, passed}
+use Rattle.laws.specs.Refusal.{passed, first-most}
 use Rattle.laws.specs.Sums.{or-no}
 use Rattle.network.specs.Limits.{rateLimit, lengthLimit}
 use Rattle.network.specs.Network.{moved, lengthOut, rateOrLengthOut, stepTests}
@@ -23,19 +22,14 @@ use Rattle.record.specs.declared.Answer.{Answer}
 use Rattle.record.specs.declared.Outcome.{Outcome}
 use Rattle.record.specs.Record.{gridOf, stateOf, outcomeOf, answerOf}
 use Rattle.validity.specs.Validity.{valid}
-use Rattle.step.specs.Step.{withState, stepRefusal, stepOf}
-use Rattle.runs.specs.Runs.{onward, stepsOf, runOf}
+use Rattle.stepping.specs.Step.{withState, stepRefusal, stepOf}
+use Rattle.repeat.specs.declared.Repeated.{Repeated}
+use Rattle.repeat.specs.Repeat.{onward, stepsOf, repeatOf, answered}
+use Rattle.runs.specs.Runs.{runOf}
 
 -- the largest number of a refusal in 01
 abbrev pub mostRefusal : ℕ
 mostRefusal = 14
-
--- the numbers of a list of tests
-pub first-most : (m : ℕ) (ts : List (Bool × ℕ)) → every (λ t. leb (t .1) m) ts ≡ true → first ts ≤ m
-unfolding first every
-first-most m [] e = omega arith
-first-most m ((true, n) ∷ ts) e = leb-true n m (and-left (leb n m) (every (λ t. leb (t .1) m) ts) e)
-first-most m ((false, n) ∷ ts) e = first-most m ts (and-right (leb n m) (every (λ t. leb (t .1) m) ts) e)
 
 -- ---- a run
 
@@ -49,13 +43,14 @@ unfolding answerOf outcomeOf
 answer-bounded b zero old new h o n = record { time = n refl; number = λ k e. let z : _≡_ {A = ℕ} 0 1 = cc in absurd (omega arith) }
 answer-bounded b (suc m) old new h o n = record { time = o; number = λ k e. let q : suc m ≡ k = cc in omega arith }
 
-onward-bounded : (b c : ℕ) (a : Answer) (next : Record → Answer) → b ≤ c → Bounded b a → ((r : Record) → r .time ≤ b → Bounded c (next r)) → Bounded c (onward a next)
+onward-bounded : (b c taken : ℕ) (a : Answer) (next : Record → Repeated) → b ≤ c → Bounded b a → ((r : Record) → r .time ≤ b → Bounded c (answered (next r))) → Bounded c (answered (onward taken a next))
 unfolding onward
-onward-bounded b c a next h p q = by-outcome (a .outcome) refl
+onward-bounded b c taken a next h p q = by-outcome (a .outcome) refl
   where
-    by-outcome : (o : Outcome) → a .outcome ≡ o → Bounded c (elim o [ Outcome.Taken ↦ next (a .«record») | Outcome.Refused k ↦ a ])
+    by-outcome : (o : Outcome) → a .outcome ≡ o
+        → Bounded c (answered (elim o [ Outcome.Taken ↦ next (a .«record») | Outcome.Refused k ↦ record { outcome = Outcome.Refused k; «record» = a .«record»; taken = taken } ]))
     by-outcome Outcome.Taken e = q (a .«record») (p .time)
-    by-outcome (Outcome.Refused k) e = record { time = le-trans (p .time) h; number = p .number }
+    by-outcome (Outcome.Refused k) e = record { time = le-trans (p .time) h; number = λ j q. p .number j (e ∙ q) }
 
 module _ (rate dt : ℕ) where
   step-number : (r : Record) → stepRefusal r rate dt ≤ mostRefusal
@@ -72,18 +67,20 @@ module _ (rate dt : ℕ) where
   unfolding stepOf withState moved stateOf
   step-bounded b r h = answer-bounded (b + lengthLimit) (stepRefusal r rate dt) r _ (step-number r) (omega arith) (λ e. omega (arith, step-length r e))
 
-  steps-bounded : (n b : ℕ) (r : Record) → r .time ≤ b → Bounded (b + n * lengthLimit) (stepsOf rate dt n r)
+  steps-bounded : (n taken b : ℕ) (r : Record) → r .time ≤ b → Bounded (b + n * lengthLimit) (answered (stepsOf rate dt taken n r))
   unfolding stepsOf
-  steps-bounded zero b r h = answer-bounded _ 0 r r (omega arith) (omega arith) (λ e. omega arith)
-  steps-bounded (suc n) b r h =
-      onward-bounded (b + lengthLimit) (b + suc n * lengthLimit) (stepOf r rate dt) (stepsOf rate dt n) (omega arith) (step-bounded b r h)
-      (λ q k. more (steps-bounded n (b + lengthLimit) q k))
+  steps-bounded zero taken b r h = record { time = omega arith; number = λ k e. let z : _≡_ {A = ℕ} 0 1 = cc in absurd (omega arith) }
+  steps-bounded (suc n) taken b r h =
+      onward-bounded (b + lengthLimit) (b + suc n * lengthLimit) taken (stepOf r rate dt) (stepsOf rate dt (suc taken) n) (omega arith) (step-bounded b r h)
+      (λ q k. more (steps-bounded n (suc taken) (b + lengthLimit) q k))
     where
       more : {a : Answer} → Bounded (b + lengthLimit + n * lengthLimit) a → Bounded (b + suc n * lengthLimit) a
       more p = record { time = omega (arith, p .time); number = p .number }
 
   pub run-bounded : (n b : ℕ) (r : Record) → r .time ≤ b → Bounded (b + n * lengthLimit) (runOf r rate dt n)
-  unfolding runOf every
-  run-bounded n b r h =
-      onward-bounded b (b + n * lengthLimit) (answerOf (first ((not (valid r), 14) ∷ [])) r r) (stepsOf rate dt n) (omega arith)
-      (answer-bounded b _ r r (first-most mostRefusal ((not (valid r), 14) ∷ []) refl) h (λ e. h)) (steps-bounded n b)
+  unfolding runOf repeatOf
+  run-bounded n b r h = by-test (valid r)
+    where
+      by-test : (t : Bool) → Bounded (b + n * lengthLimit) (answered (cond t (stepsOf rate dt 0 n r) (record { outcome = Outcome.Refused 14; «record» = r; taken = 0 })))
+      by-test true = steps-bounded n 0 b r h
+      by-test false = record { time = omega arith; number = λ k e. let q : 14 ≡ k = cc in omega arith }

@@ -1,6 +1,6 @@
 // The product of two words, and the order of two such products.
 ghost use mathlib.Core.Path.{_≡_};
-ghost use Prim.Native.Nat.{_+_, _*_, _/_, _%_, _^_, _<_};
+ghost use Prim.Native.Nat.{_+_, _*_, _-_, _/_, _%_, _^_, _≤_, _<_};
 ghost use lib.Dec.{leb};
 use super::Product;
 
@@ -30,7 +30,7 @@ fn by_columns(a: u64, b: u64) -> Columns
 
 // The upper word of a * b. The compiler makes one machine multiplication of this function and the next; of a function with both words it
 // makes four.
-fn high_word(a: u64, b: u64) -> u64
+pub fn high_word(a: u64, b: u64) -> u64
     ensures { λ r. ⌜ r ≡ a * b / 2 ^ 64 ⌝ }
 {
     let c = by_columns(a, b);
@@ -53,6 +53,14 @@ pub fn product(a: u64, b: u64) -> Product
         high: high_word(a, b),
         low: low_word(a, b),
     }
+}
+
+// a * b less c * d, where that is a word: the lower words alone tell it.
+pub fn difference(a: u64, b: u64, c: u64, d: u64) -> u64
+    requires { ⌜ (c * d ≤ a * b) × (a * b - c * d < 2 ^ 64) ⌝ }
+    ensures { λ r. ⌜ r ≡ a * b - c * d ⌝ }
+{
+    std::num::wrapping_sub_u64(low_word(a, b), low_word(c, d))
 }
 
 // Whether a * b is at most c * d.

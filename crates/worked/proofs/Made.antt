@@ -1,25 +1,30 @@
--- What the parts of a step made of lent arrays that are workable: the array of each part holds, slot by slot, what the step's definition says.
+-- What the parts of a step made of lent arrays that are workable: the array of each part holds, slot by slot, what the step's definition says,
+-- and what the arrays worked in are asked to hold they hold again.
 -- Assumes nothing.
 use mathlib.Core.Path.{_≡_, refl, sym, ap, subst, _∙_}
+use mathlib.Core.Logic.{inl, inr, ⊎-elim}
 use mathlib.Core.List.{List, [], _∷_, map, List·Memᴰ, List·Memᴰ·head, List·Memᴰ·tail}
-use Prim.Native.Nat.{ℕ, _+_, _*_, _-_, _/_, _%_, _≤_, _<_, zero-le}
+use Prim.Native.Nat.{ℕ, zero, suc, _+_, _*_, _-_, _/_, _%_, _≤_, _<_, zero-le}
 use native.Mathlib.Decide.{decLt, ℕ-discrete}
 use native.Mathlib.Nat.{mul-le-mul}
 use native.Mathlib.Omega.{arith}
 use lib.Dec.{leb}
-use lib.IntN.{ℤ, pos, negℤ, _+ℤ_, +ℤ-assoc, +ℤ-comm}
+use lib.IntN.{ℤ, pos, negℤ, natAbs, _+ℤ_, +ℤ-assoc, +ℤ-comm}
 use lib.Signed.{_≤ℤ_}
-use lib.ListN.{length, getD, replicate, length-replicate, length-map, List·getD-map}
+use lib.ListN.{length, getD, replicate, length-replicate, length-map, List·getD-map, List·getD-eq-default}
+use lib.Seq.{ext-getD}
 use borrow.Author.Tests.{lt-ltb, le-ltb, eq-eqb, ne-eqb}
 use Rattle.laws.specs.Fill.{fill, length-fill, getD-fill, getD-fill-rest, fill-ext, fill-every, getD-same}
 use Rattle.laws.specs.Integer.{≤ℤ-pos, pos-≤ℤ, natural}
 use Rattle.laws.specs.Signed.{room-up}
+use Rattle.laws.specs.Span.{span, spans, spans-fill, fill-alike}
 use Rattle.laws.specs.Sums.{ifℤ, sumℤ, range, sumℤ-ext, range-below, Room}
 use Rattle.network.specs.Limits.{totalLimit, drawdownLimit}
 use Rattle.flows.specs.Flows.{depthOf, depthAt, reducedAt, flowAt, screenAt}
-use Rattle.losses.specs.Losses.{leftAt, upperAt, lossAt, CellRoom, wellLimit}
-use Rattle.worked.specs.Worked.{Lent, slotCount, depth, wellDepth, conductance, right, lower, fromWell, left, upper, toLast, lossAfter, wellAfter, inflowAfter, workedOf, Workable}
-use Rattle.worked.specs.declared.Worked.{Worked}
+use Rattle.losses.specs.Losses.{leftAt, upperAt, lossAt, CellRoom, wellLimit, sweptOf}
+use Rattle.losses.specs.declared.Swept.{Swept}
+use Rattle.worked.specs.Worked.{Lent, slotCount, depth, wellDepth, conductance, right, lower, fromWell, left, upper, toLast, lossAfter, wellAfter, inflowAfter, workedOf, lossesOf, Workable, Unused, Scratch}
+use Rattle.worked.specs.Laws.{reduced-none}
 
 -- ---- zeros filled from the front
 module _ (f : ℕ → ℤ) (n m k : ℕ) where
@@ -28,6 +33,44 @@ module _ (f : ℕ → ℤ) (n m k : ℕ) where
 
   unfilled : n ≤ k → getD (fill n f (replicate m (pos 0))) k (pos 0) ≡ pos 0
   unfilled h = getD-fill-rest f (replicate m (pos 0)) n k (pos 0) h ∙ getD-same m k (pos 0)
+
+  -- where f is 0 they stay
+  idle-slot : n ≤ m → (k < n → f k ≡ pos 0) → getD (fill n f (replicate m (pos 0))) k (pos 0) ≡ pos 0
+  idle-slot few h = elim (decLt k n) [
+    | yes u ↦ filled u (omega arith) ∙ h u
+    | no u ↦ unfilled (omega arith)
+  ]
+
+-- ---- spans
+
+module _ (f g : ℕ → ℤ) (l : List ℤ) where
+  span-ext : (s n : ℕ) → ((k : ℕ) → k < n → f (s + k) ≡ g (s + k)) → span s n f l ≡ span s n g l
+  unfolding span
+  span-ext s zero h = refl
+  span-ext s (suc n) h =
+      let e : span s n f l ≡ span s n g l = span-ext s n (λ k u. h k (omega arith)) in
+      let q : f (s + n) ≡ g (s + n) = h n (omega arith) in
+      rw (e, q)
+
+spans-ext : (f g : ℕ → ℤ) (l : List ℤ) (w n : ℕ) → w ≤ 50 → ((k : ℕ) → k < 50 * n → k % 50 < w → f k ≡ g k) → spans w n f l ≡ spans w n g l
+unfolding spans
+spans-ext f g l w zero few h = refl
+spans-ext f g l w (suc n) few h =
+    ap (span (50 * n) w f) (spans-ext f g l w n few (λ k u v. h k (omega arith) v))
+    ∙ span-ext f g (spans w n g l) (50 * n) w (λ k u. h (50 * n + k) (omega arith) (omega arith))
+
+-- in a list that holds 0 where no cell is, by an f that is 0 there too
+spans-zeros : (f : ℕ → ℤ) (l : List ℤ) (layers columns : ℕ) → length l ≡ 1000 → (layers ≤ 20) × (columns ≤ 50)
+    → ((k : ℕ) → Unused layers columns k → getD l k (pos 0) ≡ pos 0)
+    → ((k : ℕ) → k < 50 * layers → columns ≤ k % 50 + 1 → f k ≡ pos 0)
+    → spans (columns - 1) layers f l ≡ fill (50 * layers) f (replicate 1000 (pos 0))
+spans-zeros f l layers columns long few none idle =
+    spans-fill f (pos 0) l (columns - 1) layers (omega arith) (omega arith)
+    (λ k u v. let past : columns ≤ k % 50 + 1 = omega arith in idle k u past ∙ sym (none k (inr past)))
+    ∙ fill-alike f (pos 0) l (replicate 1000 (pos 0)) (50 * layers) (long ∙ sym (length-replicate 1000 (pos 0)))
+    (λ k u. none k (inl u) ∙ sym (getD-same 1000 k (pos 0)))
+
+-- ---- sums
 
 +ℤ-last : (x y z : ℤ) → x +ℤ y +ℤ z ≡ x +ℤ z +ℤ y
 +ℤ-last x y z = +ℤ-assoc x y z ∙ ap (λ t. x +ℤ t) (+ℤ-comm y z) ∙ sym (+ℤ-assoc x z y)
@@ -53,8 +96,26 @@ module _ (a : Lent) (ok : Workable a) where
   unfolding wellDepth
   well-within e = rw e (ok .well)
 
+  few : (a .layers ≤ 20) × (a .columns ≤ 50)
+  few = (ok .layers .1, ok .columns .1)
+
+  -- a slot of the layers that no cell uses is one from the last column on
+  past : (k : ℕ) → k < slotCount a → Unused (a .layers) (a .columns) k → a .columns ≤ k % 50 + 1
+  past k h = ⊎-elim (λ le. absurd (omega arith)) (λ p. p)
+
   -- ---- ds: the drawdowns
-  module _ (ds : List ℕ) (hd : map pos ds ≡ fill (slotCount a) (depthAt (a .losses) (a .storages)) (replicate 1000 (pos 0))) where
+  abbrev pub Drawn : List ℕ → Type 0
+  Drawn ds = map pos ds ≡ fill (slotCount a) (depthAt (a .losses) (a .storages)) (replicate 1000 (pos 0))
+
+  pub drawn : (old ds : List ℕ) → length old ≡ 1000 → ((k : ℕ) → Unused (a .layers) (a .columns) k → getD old k 0 ≡ 0)
+      → map pos ds ≡ spans (a .columns - 1) (a .layers) (depthAt (a .losses) (a .storages)) (map pos old) → Drawn ds
+  unfolding depth
+  drawn old ds long none e =
+      e ∙ spans-zeros (depthAt (a .losses) (a .storages)) (map pos old) (a .layers) (a .columns) (length-map old pos ∙ long) few
+      (λ k u. List·getD-map pos old k 0 ∙ ap pos (none k u))
+      (λ k h p. ok .idle k h p .0)
+
+  module _ (ds : List ℕ) (hd : Drawn ds) where
     depth-at : (k : ℕ) → k < slotCount a → pos (getD ds k 0) ≡ depth a k
     unfolding depth
     depth-at k h =
@@ -74,61 +135,99 @@ module _ (a : Lent) (ok : Workable a) where
     pub table-le : (k : ℕ) → k ≤ a .columns - 1 → getD ds k 0 ≤ 1000 * a .thickness
     table-le k h = ≤ℤ-pos (subst (λ z. z ≤ℤ pos (1000 * a .thickness)) (sym (depth-at k (omega (arith, ok .layers, ok .columns)))) (ok .table k (omega (arith, ok .columns))))
 
+    depths-long : length ds ≡ 1000
+    depths-long = sym (length-map ds pos) ∙ ap length hd ∙ length-fill (depthAt (a .losses) (a .storages)) (replicate 1000 (pos 0)) (slotCount a) ∙ length-replicate 1000 (pos 0)
+
+    depths-idle : (k : ℕ) → Unused (a .layers) (a .columns) k → getD ds k 0 ≡ 0
+    unfolding depth
+    depths-idle k u = ap natAbs (sym (List·getD-map pos ds k 0) ∙ ap (λ l. getD l k (pos 0)) hd
+        ∙ idle-slot (depthAt (a .losses) (a .storages)) (slotCount a) 1000 k (omega (arith, ok .layers)) (λ h. ok .idle k h (past k h u) .0))
+
     -- ---- cs: C in use
-    module _ (cs : List ℕ) (long : length cs ≡ 1000) (hc : map pos cs ≡ fill (a .columns - 1) (reducedAt (a .thickness) (a .horizontal) ds) (map pos (a .horizontal))) where
-      whole : length (map pos (a .horizontal)) ≡ 1000
-      whole = sym (length-fill (reducedAt (a .thickness) (a .horizontal) ds) (map pos (a .horizontal)) (a .columns - 1)) ∙ sym (ap length hc) ∙ length-map cs pos ∙ long
+    module _ (old cs : List ℕ) (long : length old ≡ length (a .horizontal)) (same : (k : ℕ) → a .columns ≤ k + 1 → getD old k 0 ≡ getD (a .horizontal) k 0)
+        (hc : map pos cs ≡ fill (a .columns - 1) (reducedAt (a .thickness) (a .horizontal) ds) (map pos old)) where
+      conductances-long : length cs ≡ length (a .horizontal)
+      conductances-long = sym (length-map cs pos) ∙ ap length hc ∙ length-fill (reducedAt (a .thickness) (a .horizontal) ds) (map pos old) (a .columns - 1) ∙ length-map old pos ∙ long
+
+      rest : (k : ℕ) → a .columns ≤ k + 1 → getD (map pos cs) k (pos 0) ≡ pos (getD (a .horizontal) k 0)
+      rest k h = ap (λ l. getD l k (pos 0)) hc ∙ getD-fill-rest (reducedAt (a .thickness) (a .horizontal) ds) (map pos old) (a .columns - 1) k (pos 0) (omega arith)
+          ∙ List·getD-map pos old k 0 ∙ ap pos (same k h)
+
+      pub conductances-again : (length cs ≡ length (a .horizontal)) × ((k : ℕ) → a .columns ≤ k + 1 → getD cs k 0 ≡ getD (a .horizontal) k 0)
+      conductances-again = (conductances-long, λ k h. ap natAbs (sym (List·getD-map pos cs k 0) ∙ rest k h))
+
+      -- past the array's end C is 0, in use too
+      reduced-at : (k : ℕ) → k < a .columns - 1 → getD (map pos cs) k (pos 0) ≡ reducedAt (a .thickness) (a .horizontal) ds k
+      unfolding reducedAt
+      reduced-at k h = elim (decLt k (length cs)) [
+        | yes u ↦ ap (λ l. getD l k (pos 0)) hc ∙ getD-fill (reducedAt (a .thickness) (a .horizontal) ds) (map pos old) (a .columns - 1) k (pos 0) h (omega (arith, u, conductances-long, long, length-map old pos))
+        | no u ↦ List·getD-map pos cs k 0 ∙ ap pos (List·getD-eq-default cs 0 {n = k} (omega arith)) ∙ sym (rw (List·getD-eq-default (a .horizontal) 0 {n = k} (omega (arith, u, conductances-long))) (reduced-none (a .thickness) (pos (getD ds k 0)) (pos (getD ds (k + 1) 0))))
+      ]
 
       conductance-at : (k : ℕ) → k + 1 < slotCount a → pos (getD cs k 0) ≡ conductance a k
       unfolding conductance reducedAt
-      conductance-at k h = sym (List·getD-map pos cs k 0) ∙ ap (λ l. getD l k (pos 0)) hc ∙ elim (decLt (k + 1) (a .columns)) [
-        | yes u ↦ rw (lt-ltb (k + 1) (a .columns) u)
-            (getD-fill (reducedAt (a .thickness) (a .horizontal) ds) (map pos (a .horizontal)) (a .columns - 1) k (pos 0) (omega arith) (omega (arith, whole, ok .columns))
-            ∙ rw (depth-at k (omega arith), depth-at (k + 1) h))
-        | no u ↦ rw (le-ltb (k + 1) (a .columns) (omega arith))
-            (getD-fill-rest (reducedAt (a .thickness) (a .horizontal) ds) (map pos (a .horizontal)) (a .columns - 1) k (pos 0) (omega arith) ∙ List·getD-map pos (a .horizontal) k 0)
+      conductance-at k h = sym (List·getD-map pos cs k 0) ∙ elim (decLt (k + 1) (a .columns)) [
+        | yes u ↦ rw (lt-ltb (k + 1) (a .columns) u) (reduced-at k (omega arith) ∙ rw (depth-at k (omega arith), depth-at (k + 1) h))
+        | no u ↦ rw (le-ltb (k + 1) (a .columns) (omega arith)) (rest k (omega arith))
       ]
 
       pub flow-right : (k : ℕ) → k + 1 < slotCount a → flowAt cs ds 1 (a .dt) k ≡ right a k
       unfolding flowAt right
       flow-right k h = rw (conductance-at k h, depth-at k (omega arith), depth-at (k + 1) h)
 
-    pub flow-lower : (k : ℕ) → k + 50 < slotCount a → flowAt (a .vertical) ds 50 (a .dt) k ≡ lower a k
+    pub flow-lower : (k : ℕ) → k < 50 * (a .layers - 1) → flowAt (a .vertical) ds 50 (a .dt) k ≡ lower a k
     unfolding flowAt lower ifℤ
-    flow-lower k h = rw (lt-ltb (k + 50) (slotCount a) h, depth-at k (omega arith), depth-at (k + 50) h)
+    flow-lower k h = let below : k + 50 < slotCount a = omega arith in rw (lt-ltb (k + 50) (slotCount a) below, depth-at k (omega arith), depth-at (k + 50) below)
 
     pub flow-screen : (well : ℕ) → pos well ≡ wellDepth a → (i : ℕ) → i < a .layers → screenAt (a .screen) well ds (a .dt) i ≡ fromWell a i
     unfolding screenAt fromWell
     flow-screen well e i h = rw (e, depth-at (50 * i) (omega arith))
 
-  -- ---- the water of the faces, where the arrays were filled with it
-  pub record Faces (across down screen : List ℤ) : Type 0 where
-    pub rights : (k : ℕ) → k + 1 < slotCount a → getD across k (pos 0) ≡ right a k
-    pub lowers : (k : ℕ) → getD down k (pos 0) ≡ lower a k
-    pub screens : (i : ℕ) → i < a .layers → getD screen i (pos 0) ≡ fromWell a i
+  -- ---- ws: the water to the layer below
+  abbrev pub Lowered : List ℤ → Type 0
+  Lowered ws = ws ≡ fill (50 * (a .layers - 1)) (lower a) (replicate 1000 (pos 0))
 
-  module _ {across down screen : List ℤ} (f g h : ℕ → ℤ)
-      (ea : across ≡ fill (slotCount a - 1) f (replicate 1000 (pos 0)))
-      (ed : down ≡ fill (slotCount a - 50) g (replicate 1000 (pos 0)))
-      (es : screen ≡ fill (a .layers) h (replicate 20 (pos 0)))
-      (fs : (k : ℕ) → k + 1 < slotCount a → f k ≡ right a k)
-      (gs : (k : ℕ) → k + 50 < slotCount a → g k ≡ lower a k)
-      (hs : (i : ℕ) → i < a .layers → h i ≡ fromWell a i) where
-    below : (k : ℕ) → getD (fill (slotCount a - 50) g (replicate 1000 (pos 0))) k (pos 0) ≡ lower a k
+  pub lowered : (ds : List ℕ) → Drawn ds → (old ws : List ℤ) → length old ≡ 1000 → ((k : ℕ) → Unused (a .layers - 1) (a .columns) k → getD old k (pos 0) ≡ pos 0)
+      → ws ≡ spans (a .columns - 1) (a .layers - 1) (flowAt (a .vertical) ds 50 (a .dt)) old → Lowered ws
+  lowered ds hd old ws long none e =
+      e ∙ spans-zeros (flowAt (a .vertical) ds 50 (a .dt)) old (a .layers - 1) (a .columns) long (omega (arith, few .0), few .1) none
+      (λ k h p. flow-lower ds hd k h ∙ ok .idle k (omega arith) p .1)
+      ∙ fill-ext (flowAt (a .vertical) ds 50 (a .dt)) (lower a) (replicate 1000 (pos 0)) (50 * (a .layers - 1)) (flow-lower ds hd)
+
+  module _ (ws : List ℤ) (hw : Lowered ws) where
+    pub lowered-at : (k : ℕ) → getD ws k (pos 0) ≡ lower a k
     unfolding lower ifℤ
-    below k = elim (decLt (k + 50) (slotCount a)) [
-      | yes u ↦ filled g (slotCount a - 50) 1000 k (omega arith) (omega (arith, ok .layers)) ∙ gs k u
-      | no u ↦ rw (le-ltb (k + 50) (slotCount a) (omega arith)) (unfilled g (slotCount a - 50) 1000 k (omega arith))
+    lowered-at k = ap (λ l. getD l k (pos 0)) hw ∙ elim (decLt k (50 * (a .layers - 1))) [
+      | yes u ↦ filled (lower a) (50 * (a .layers - 1)) 1000 k u (omega (arith, ok .layers))
+      | no u ↦ rw (le-ltb (k + 50) (slotCount a) (omega (arith, ok .layers))) (unfilled (lower a) (50 * (a .layers - 1)) 1000 k (omega arith))
     ]
 
-    pub faces-made : Faces across down screen
-    faces-made = record {
-      rights = λ k u. ap (λ l. getD l k (pos 0)) ea ∙ filled f (slotCount a - 1) 1000 k (omega arith) (omega (arith, ok .layers)) ∙ fs k u;
-      lowers = λ k. ap (λ l. getD l k (pos 0)) ed ∙ below k;
-      screens = λ i u. ap (λ l. getD l i (pos 0)) es ∙ filled h (a .layers) 20 i u (omega (arith, ok .layers)) ∙ hs i u;
-    }
+    lowered-long : length ws ≡ 1000
+    lowered-long = ap length hw ∙ length-fill (lower a) (replicate 1000 (pos 0)) (50 * (a .layers - 1)) ∙ length-replicate 1000 (pos 0)
 
-  module _ {across down screen : List ℤ} (F : Faces across down screen) where
+    lowered-idle : (k : ℕ) → Unused (a .layers - 1) (a .columns) k → getD ws k (pos 0) ≡ pos 0
+    lowered-idle k u = ap (λ l. getD l k (pos 0)) hw ∙ idle-slot (lower a) (50 * (a .layers - 1)) 1000 k (omega (arith, ok .layers))
+        (λ h. ok .idle k (omega arith) (⊎-elim (λ le. absurd (omega arith)) (λ p. p) u) .1)
+
+  -- ---- nothing is lost where there is no cell, nor past the array's end
+  unused : length (a .losses) ≡ 1000 → (k : ℕ) → Unused (a .layers) (a .columns) k → getD (a .losses) k (pos 0) ≡ pos 0
+  unused long k u = elim (decLt k 1000) [
+    | yes h ↦ ok .unused k h u
+    | no h ↦ List·getD-eq-default (a .losses) (pos 0) {n = k} (omega (arith, h, long))
+  ]
+
+  -- ---- nothing is stored from the last column on
+  after-idle : (k : ℕ) → a .columns ≤ k % 50 + 1 → lossAfter a k ≡ pos 0
+  unfolding lossAfter ifℤ
+  after-idle k h = rw (le-ltb (k % 50 + 1) (a .columns) h)
+
+  -- ---- the water of the faces: what the sweep takes for it is the step's
+  pub record Faces (across screen : ℕ → ℤ) (down : List ℤ) : Type 0 where
+    pub rights : (k : ℕ) → k + 1 < slotCount a → across k ≡ right a k
+    pub lowers : (k : ℕ) → getD down k (pos 0) ≡ lower a k
+    pub screens : (i : ℕ) → i < a .layers → screen i ≡ fromWell a i
+
+  module _ {across screen : ℕ → ℤ} {down : List ℤ} (F : Faces across screen down) where
     left-at : (k : ℕ) → k < slotCount a → leftAt across screen k ≡ left a k
     unfolding leftAt left
     left-at k u = elim (ℕ-discrete (k % 50) 0) [
@@ -140,39 +239,75 @@ module _ (a : Lent) (ok : Workable a) where
     unfolding upperAt upper
     upper-at k = ap (ifℤ (leb 50 k)) (F .lowers (k - 50))
 
-    last-at : (i : ℕ) → i < a .layers → negℤ (getD across (50 * i + (a .columns - 2)) (pos 0)) ≡ negℤ (toLast a i)
+    last-at : (i : ℕ) → i < a .layers → negℤ (across (50 * i + (a .columns - 1 - 1))) ≡ negℤ (toLast a i)
     unfolding toLast
-    last-at i u = ap negℤ (F .rights (50 * i + (a .columns - 2)) (omega (arith, ok .columns)))
+    last-at i u =
+        let e : a .columns - 1 - 1 ≡ a .columns - 2 = omega arith in
+        rw e (ap negℤ (F .rights (50 * i + (a .columns - 2)) (omega (arith, ok .columns))))
 
     -- each sum has room
-    pub cell-room : (k : ℕ) → k < slotCount a → CellRoom (a .columns) (a .losses) across down screen k
-    cell-room k u = record { room = λ s. rw (F .rights k (omega (arith, ok .columns)), F .lowers k, left-at k u, upper-at k) (ok .cellRoom k u s) }
+    pub cell-room : (k : ℕ) → k < slotCount a → k % 50 < a .columns - 1 → CellRoom (a .losses) down across screen k
+    cell-room k u s = rw (F .rights k (omega (arith, ok .columns)), F .lowers k, left-at k u, upper-at k)
+        (record { water = ok .rights k (omega (arith, ok .columns)); room = ok .cellRoom k u (omega arith) })
 
-    pub well-room : {v : ℤ} → v ≡ a .wellLoss +ℤ pos (a .rate * a .dt) → Room wellLimit v (map (λ i. getD screen i (pos 0)) (range 0 (a .layers)))
-    well-room e = rw e (same-room (a .layers) (λ i. getD screen i (pos 0)) (fromWell a) (F .screens) (room-up (raised (a .rate * a .dt) (ok .wellRoom)) (omega (arith, mul-le-mul (ok .rate) (ok .dt)))))
+    pub screen-le : (i : ℕ) → i < a .layers → natAbs (screen i) ≤ totalLimit
+    screen-le i h = rw (F .screens i h) (ok .screens i h)
 
-    pub last-room : Room totalLimit (a .inflow) (map (λ i. negℤ (getD across (50 * i + (a .columns - 2)) (pos 0))) (range 0 (a .layers)))
-    last-room = same-room (a .layers) (λ i. negℤ (getD across (50 * i + (a .columns - 2)) (pos 0))) (λ i. negℤ (toLast a i)) last-at (ok .lastRoom)
+    pub well-room : {v : ℤ} → v ≡ a .wellLoss +ℤ pos (a .rate * a .dt) → Room wellLimit v (map screen (range 0 (a .layers)))
+    well-room e = rw e (same-room (a .layers) screen (fromWell a) (F .screens) (room-up (raised (a .rate * a .dt) (ok .wellRoom)) (omega (arith, mul-le-mul (ok .rate) (ok .dt)))))
+
+    pub last-room : {v : ℤ} → v ≡ a .inflow → Room totalLimit v (map (λ i. negℤ (across (50 * i + (a .columns - 1 - 1)))) (range 0 (a .layers)))
+    last-room e = rw e (same-room (a .layers) (λ i. negℤ (across (50 * i + (a .columns - 1 - 1)))) (λ i. negℤ (toLast a i)) last-at (ok .lastRoom))
 
     -- what each sum comes to
-    loss-at : (k : ℕ) → k < slotCount a → lossAt (a .columns) (a .losses) across down screen k ≡ lossAfter a k
+    loss-at : (k : ℕ) → k < slotCount a → k % 50 < a .columns - 1 → lossAt (a .losses) down across screen k ≡ lossAfter a k
     unfolding lossAt lossAfter ifℤ
-    loss-at k u = elim (decLt (k % 50 + 1) (a .columns)) [
-      | yes s ↦ rw (lt-ltb (k % 50 + 1) (a .columns) s, F .rights k (omega (arith, ok .columns)), F .lowers k, left-at k u, upper-at k)
-      | no s ↦ rw (le-ltb (k % 50 + 1) (a .columns) (omega arith))
-    ]
+    loss-at k u s = rw (lt-ltb (k % 50 + 1) (a .columns) (omega arith), F .rights k (omega (arith, ok .columns)), F .lowers k, left-at k u, upper-at k)
 
     -- so what the parts made is the step's answer
-    pub worked-made : {losses : List ℤ} {loss inflow : ℤ}
-        → losses ≡ fill (slotCount a) (lossAt (a .columns) (a .losses) across down screen) (replicate 1000 (pos 0))
-        → loss ≡ a .wellLoss +ℤ pos (a .rate * a .dt) +ℤ sumℤ (range 0 (a .layers)) (λ i. getD screen i (pos 0))
-        → inflow ≡ a .inflow +ℤ sumℤ (range 0 (a .layers)) (λ i. negℤ (getD across (50 * i + (a .columns - 2)) (pos 0)))
-        → _≡_ {A = Worked} (record { losses = losses; «well_loss» = loss; inflow = inflow }) (workedOf a)
-    unfolding workedOf wellAfter inflowAfter
-    worked-made p q r =
-        let cells : fill (slotCount a) (lossAt (a .columns) (a .losses) across down screen) (replicate 1000 (pos 0)) ≡ fill (slotCount a) (lossAfter a) (replicate 1000 (pos 0)) =
-        fill-ext (lossAt (a .columns) (a .losses) across down screen) (lossAfter a) (replicate 1000 (pos 0)) (slotCount a) loss-at in
-        let well : sumℤ (range 0 (a .layers)) (λ i. getD screen i (pos 0)) ≡ sumℤ (range 0 (a .layers)) (fromWell a) = same-sum (a .layers) (λ i. getD screen i (pos 0)) (fromWell a) (F .screens) in
-        let last : sumℤ (range 0 (a .layers)) (λ i. negℤ (getD across (50 * i + (a .columns - 2)) (pos 0))) ≡ sumℤ (range 0 (a .layers)) (λ i. negℤ (toLast a i)) =
-        same-sum (a .layers) (λ i. negℤ (getD across (50 * i + (a .columns - 2)) (pos 0))) (λ i. negℤ (toLast a i)) last-at in
-        rw (p ∙ cells, q ∙ ap (λ z. a .wellLoss +ℤ pos (a .rate * a .dt) +ℤ z) well ∙ +ℤ-last (a .wellLoss) (pos (a .rate * a .dt)) (sumℤ (range 0 (a .layers)) (fromWell a)), r ∙ ap (λ z. a .inflow +ℤ z) last)
+    pub swept-made : {loss inflow : ℤ} {swept : Swept} → loss ≡ a .wellLoss +ℤ pos (a .rate * a .dt) → inflow ≡ a .inflow
+        → swept ≡ sweptOf (a .layers) (a .columns - 1) loss inflow across screen → swept ≡ workedOf a
+    unfolding sweptOf workedOf wellAfter inflowAfter
+    swept-made p q r =
+        let well : sumℤ (range 0 (a .layers)) screen ≡ sumℤ (range 0 (a .layers)) (fromWell a) = same-sum (a .layers) screen (fromWell a) (F .screens) in
+        let last : sumℤ (range 0 (a .layers)) (λ i. negℤ (across (50 * i + (a .columns - 1 - 1)))) ≡ sumℤ (range 0 (a .layers)) (λ i. negℤ (toLast a i)) =
+        same-sum (a .layers) (λ i. negℤ (across (50 * i + (a .columns - 1 - 1)))) (λ i. negℤ (toLast a i)) last-at in
+        r ∙ rw (p, q, well, last, +ℤ-last (a .wellLoss) (pos (a .rate * a .dt)) (sumℤ (range 0 (a .layers)) (fromWell a)))
+
+    pub losses-made : (vs : List ℤ) → length (a .losses) ≡ 1000
+        → vs ≡ spans (a .columns - 1) (a .layers) (lossAt (a .losses) down across screen) (a .losses) → vs ≡ lossesOf a
+    unfolding lossesOf
+    losses-made vs long e =
+        e ∙ spans-ext (lossAt (a .losses) down across screen) (lossAfter a) (a .losses) (a .columns - 1) (a .layers) (omega (arith, ok .columns)) loss-at
+        ∙ spans-zeros (lossAfter a) (a .losses) (a .layers) (a .columns) long few (unused long) (λ k h p. after-idle k p)
+
+  -- what is kept of the losses is the losses: both hold 0 where there is no cell
+  pub before-made : (old vs : List ℤ) → length (a .losses) ≡ 1000 → length old ≡ 1000
+      → ((k : ℕ) → Unused (a .layers) (a .columns) k → getD old k (pos 0) ≡ pos 0)
+      → vs ≡ spans (a .columns - 1) (a .layers) (λ k. getD (a .losses) k (pos 0)) old → vs ≡ a .losses
+  before-made old vs long whole none e =
+      e ∙ spans-zeros was old (a .layers) (a .columns) whole few none (λ k h p. unused long k (inr p))
+      ∙ ext-getD (pos 0) (fill (slotCount a) was (replicate 1000 (pos 0))) (a .losses)
+      (filled-long ∙ sym long)
+      (λ k u. elim (decLt k (slotCount a)) [
+        | yes h ↦ filled was (slotCount a) 1000 k h (omega (arith, u, filled-long))
+        | no h ↦ unfilled was (slotCount a) 1000 k (omega arith) ∙ sym (unused long k (inl (omega arith)))
+      ])
+    where
+      was : ℕ → ℤ
+      was k = getD (a .losses) k (pos 0)
+
+      filled-long : length (fill (slotCount a) was (replicate 1000 (pos 0))) ≡ 1000
+      filled-long = length-fill was (replicate 1000 (pos 0)) (slotCount a) ∙ length-replicate 1000 (pos 0)
+
+  -- the arrays worked in hold again what they are asked to
+  pub scratch-again : {ds cs : List ℕ} {ws vs : List ℤ} → Drawn ds
+      → (length cs ≡ length (a .horizontal)) × ((k : ℕ) → a .columns ≤ k + 1 → getD cs k 0 ≡ getD (a .horizontal) k 0)
+      → Lowered ws → length (a .losses) ≡ 1000 → vs ≡ a .losses → Scratch (a .layers) (a .columns) (a .horizontal) ds cs ws vs
+  scratch-again {ds} {cs} {ws} {vs} hd hc hw long hv = record {
+    long = (depths-long ds hd, hc .0, lowered-long ws hw, ap length hv ∙ long);
+    depths = depths-idle ds hd;
+    conductances = hc .1;
+    down = lowered-idle ws hw;
+    before = λ k u. ap (λ l. getD l k (pos 0)) hv ∙ unused long k u;
+  }

@@ -1,19 +1,21 @@
 -- One step by slots, all faces from the D at its start: the answer of `work_step`, and what it asks of the arrays that it is lent.
 -- Slot 50×i + (j − 1) is for layer i (from 0) and column j (from 1). Units as in the network's definitions.
 -- Assumes nothing.
+use mathlib.Core.Path.{_≡_}
 use mathlib.Core.Bool.{cond}
+use mathlib.Core.Logic.{_⊎_}
 use mathlib.Core.List.{List, [], _∷_, map}
 use Prim.Native.Nat.{ℕ, _+_, _*_, _-_, _/_, _%_, _^_, _≤_, _<_}
 use lib.IntN.{ℤ, pos, negℤ, natAbs, _+ℤ_, _-ℤ_}
 use lib.Signed.{_≤ℤ_}
 use lib.Dec.{eqb, leb, ltb}
-use lib.ListN.{getD, replicate}
+use lib.ListN.{length, getD, replicate}
 use Rattle.laws.specs.Fill.{fill}
 use Rattle.laws.specs.Sums.{ifℤ, sumℤ, range, Room}
 use Rattle.network.specs.Limits.{rateLimit, lengthLimit, totalLimit, drawdownLimit}
 use Rattle.network.specs.Network.{water}
 use Rattle.flows.specs.Flows.{depthOf, depthAt, reducedC}
-use Rattle.worked.specs.declared.Worked.{Worked}
+use Rattle.losses.specs.declared.Swept.{Swept}
 
 -- what a step is worked from
 pub record Lent : Type 0 where
@@ -109,12 +111,16 @@ wellAfter a = a .wellLoss +ℤ sumℤ (range 0 (a .layers)) (fromWell a) +ℤ po
 unfoldable pub inflowAfter : Lent → ℤ
 inflowAfter a = a .inflow +ℤ sumℤ (range 0 (a .layers)) (λ i. negℤ (toLast a i))
 
-unfoldable pub workedOf : Lent → Worked
-workedOf a = record {
-  losses = fill (slotCount a) (lossAfter a) (replicate 1000 (pos 0));
-  «well_loss» = wellAfter a;
-  inflow = inflowAfter a;
-}
+unfoldable pub workedOf : Lent → Swept
+workedOf a = record { «well_loss» = wellAfter a; inflow = inflowAfter a }
+
+-- and of every cell in its slot
+unfoldable pub lossesOf : Lent → List ℤ
+lossesOf a = fill (slotCount a) (lossAfter a) (replicate 1000 (pos 0))
+
+-- a slot that no cell uses, in so many layers and columns
+abbrev pub Unused : ℕ → ℕ → ℕ → Type 0
+Unused layers columns k = (50 * layers ≤ k) ⊎ (columns ≤ k % 50 + 1)
 
 -- ---- what is asked: every number in its limits, and every sum on the way between 0 and the largest total
 pub record Workable (a : Lent) : Type 0 where
@@ -123,6 +129,8 @@ pub record Workable (a : Lent) : Type 0 where
   pub thickness : (0 < a .thickness) × (2000 * a .thickness < 2 ^ 64)
   pub rate : a .rate ≤ rateLimit
   pub dt : a .dt ≤ lengthLimit
+  pub storages : (k : ℕ) → k < slotCount a → getD (a .storages) k 0 < 2 ^ 63
+  pub wellStorage : a .wellStorage < 2 ^ 63
   pub losses : (k : ℕ) → k < slotCount a → pos 0 ≤ℤ getD (a .losses) k (pos 0)
   pub depths : (k : ℕ) → k < slotCount a → depth a k ≤ℤ pos drawdownLimit
   pub table : (k : ℕ) → k < a .columns → depth a k ≤ℤ pos (1000 * a .thickness)
@@ -134,3 +142,17 @@ pub record Workable (a : Lent) : Type 0 where
       → Room totalLimit (getD (a .losses) k (pos 0)) (right a k ∷ lower a k ∷ negℤ (left a k) ∷ negℤ (upper a k) ∷ [])
   pub wellRoom : Room totalLimit (a .wellLoss) (map (fromWell a) (range 0 (a .layers)))
   pub lastRoom : Room totalLimit (a .inflow) (map (λ i. negℤ (toLast a i)) (range 0 (a .layers)))
+  -- nothing stands in the slots from the last column on
+  pub idle : (k : ℕ) → k < slotCount a → a .columns ≤ k % 50 + 1 → (depth a k ≡ pos 0) × (lower a k ≡ pos 0)
+  -- and nothing is lost where there is no cell
+  pub unused : (k : ℕ) → k < 1000 → Unused (a .layers) (a .columns) k → getD (a .losses) k (pos 0) ≡ pos 0
+
+-- ---- what is asked of the arrays worked in, and holds of them again: a slot that no step fills holds 0, and C in use is C but in layer 1
+
+pub record Scratch (layers columns : ℕ) (horizontal ds cs : List ℕ) (ws vs : List ℤ) : Type 0 where
+  -- each list is whole, which a lent array does not say of itself
+  pub long : (length ds ≡ 1000) × (length cs ≡ length horizontal) × (length ws ≡ 1000) × (length vs ≡ 1000)
+  pub depths : (k : ℕ) → Unused layers columns k → getD ds k 0 ≡ 0
+  pub conductances : (k : ℕ) → columns ≤ k + 1 → getD cs k 0 ≡ getD horizontal k 0
+  pub down : (k : ℕ) → Unused (layers - 1) columns k → getD ws k (pos 0) ≡ pos 0
+  pub before : (k : ℕ) → Unused layers columns k → getD vs k (pos 0) ≡ pos 0

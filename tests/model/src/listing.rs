@@ -11,7 +11,21 @@ const HEADER: &str = "entry us well pumped wellloss cellloss inflow";
 
 /// Runs an entry; a refused step ends it, and the steps before stay.
 pub fn run_entry(record: &mut Record, entry: Entry) -> Result<(), Refusal> {
-    (0..entry.repeats).try_for_each(|_| step::step(record, entry.rate, entry.length))
+    repeat(record, entry.rate, entry.length, entry.repeats).0
+}
+
+/// Equal steps, one after the other: what became of them, and how many were taken. A refusal ends them, and those
+/// before it stay; 14 is judged also where no step is asked.
+pub fn repeat(record: &mut Record, rate: u64, length: u64, steps: u64) -> (Result<(), Refusal>, u64) {
+    if let Err(refusal) = record.judge() {
+        return (Err(refusal), 0);
+    }
+    for taken in 0..steps {
+        if let Err(refusal) = step::step(record, rate, length) {
+            return (Err(refusal), taken);
+        }
+    }
+    (Ok(()), steps)
 }
 
 /// The listing of a text, line by line as the entries end.

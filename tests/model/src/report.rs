@@ -7,9 +7,10 @@ use crate::listing;
 use crate::readings;
 use crate::record::{self, Record};
 use crate::refusal::Refusal;
-use crate::text;
+use crate::text::{self, Entry};
 use std::fmt::Display;
 use std::io::{self, Write};
+use std::iter;
 
 /// Numbers parted by one space, each after a space.
 fn row<T: Display>(numbers: impl IntoIterator<Item = T>) -> String {
@@ -114,16 +115,19 @@ fn write_sum<W: Write>(heading: &str, body: &[u8], out: &mut W) -> io::Result<()
     writeln!(out, "{heading} {}", byte_checksum(body))
 }
 
-/// Runs the entries and writes after each its outcome and the record's checksum.
+/// Runs no step, as entry 0, and then the entries, and writes after each its outcome, the number of steps taken and
+/// the record's checksum.
 pub fn write_runs(text: &[u8], out: &mut impl Write) -> io::Result<()> {
     let (outcome, mut record) = record::start(text);
     if outcome.is_err() {
         return Ok(());
     }
+    let none = Entry { rate: 0, length: 0, repeats: 0 };
     let pumping = text::read(text).expect("start has accepted this text").pumping;
-    for (above, &entry) in pumping.iter().enumerate() {
-        let outcome = value(listing::run_entry(&mut record, entry).map(|()| "taken"));
-        writeln!(out, "after {} {outcome} {}", above + 1, record_checksum(&record))?;
+    for (number, &entry) in iter::once(&none).chain(&pumping).enumerate() {
+        let (outcome, taken) = listing::repeat(&mut record, entry.rate, entry.length, entry.repeats);
+        let outcome = value(outcome.map(|()| "taken"));
+        writeln!(out, "run {number} {outcome} {taken} {}", record_checksum(&record))?;
     }
     Ok(())
 }

@@ -7,8 +7,9 @@ use Rattle.network.specs.Grid.{networkOf}
 use Rattle.record.specs.Record.{gridOf, stateOf}
 use Rattle.validity.specs.Laws.{Valid, valid-record}
 use Rattle.readings.specs.Readings.{numberOf}
+use Rattle.readings.specs.Laws.{well-back}
 use Rattle.face_flow.specs.Laws.{Led, led}
-use Rattle.face_flow.proofs.Laws.{end-asks, joined-ends, well-back, depth-back, in-use-asks, crossing-asks, crossing-back}
+use Rattle.face_flow.proofs.Laws.{end-asks, joined-ends, depth-back, in-use-asks, crossing-asks, crossing-back}
 use Rattle.face_flow.proofs.ahead.Statement.{statement}
 use Rattle.face_flow.proofs.ahead.Tie as tie
 
@@ -32,10 +33,10 @@ next c = let s = start c in depth-back _ (known s) (joint s) _ (s .pre .2) (s .p
 -- ---- what is asked, and the answer
 
 drawdown-at-requires : tie.Need-drawdown-at-requires
-drawdown-at-requires c κs = let s = c .before .before .before .before in rw (well-back _ (known s) (joint s) _ (s .pre .2) (s .pre .3)) (end-asks _ (known s) (joined-ends _ (known s) (joint s) .0))
+drawdown-at-requires c κs = let s = c .before .before .before .before in rw (well-back _ (known s)) (end-asks _ (known s) (joined-ends _ (known s) (joint s) .0))
 
 drawdown-at-requires-2 : tie.Need-drawdown-at-requires-2
-drawdown-at-requires-2 c κs = let s = c .before .before .before .before .before .before .before .before in rw (well-back _ (known s) (joint s) _ (s .pre .2) (s .pre .3)) (end-asks _ (known s) (joined-ends _ (known s) (joint s) .1))
+drawdown-at-requires-2 c κs = let s = c .before .before .before .before .before .before .before .before in rw (well-back _ (known s)) (end-asks _ (known s) (joined-ends _ (known s) (joint s) .1))
 
 element-copy-out-in-use : tie.Need-element-copy-out-in-use
 element-copy-out-in-use c = search needs

@@ -13,10 +13,10 @@ use Rattle.flows.proofs.in_use.Statement.{statement}
 use Rattle.flows.proofs.in_use.Tie as tie
 
 abbrev Inv-loop : tie.InvT-loop
-Inv-loop horizontal depths thickness faces divisor out₀ k₀ out k = (k ≤ faces) × (divisor ≡ 2000 * thickness) × (map pos out ≡ fill k (reducedAt thickness horizontal depths) (map pos horizontal))
+Inv-loop horizontal depths thickness faces conductances₀ divisor k₀ conductances k = (k ≤ faces) × (divisor ≡ 2000 * thickness) × (map pos conductances ≡ fill k (reducedAt thickness horizontal depths) (map pos conductances₀))
 
 abbrev μ-loop : tie.MeasureT-loop
-μ-loop horizontal depths thickness faces divisor out₀ k₀ out k = faces - k
+μ-loop horizontal depths thickness faces conductances₀ divisor k₀ conductances k = faces - k
 
 mul-divisor : tie.Need-mul-divisor Inv-loop μ-loop
 mul-divisor c = omega arith
@@ -48,14 +48,14 @@ element-copy-out-reduced-3 c = omega arith
 reduced-requires : tie.Need-reduced-requires Inv-loop μ-loop
 reduced-requires c κs =
     let at = c .before .before .before .before in
-    let p = at .before .before .pre in
+    let p = at .before .pre in
     (omega arith, omega arith, p .1 (at .loop .k) (omega arith), p .1 (at .loop .k + 1) (omega arith))
 
-mul-out : tie.Need-mul-out Inv-loop μ-loop
-mul-out c = omega arith
+mul-conductances : tie.Need-mul-conductances Inv-loop μ-loop
+mul-conductances c = omega arith
 
-array-write-out : tie.Need-array-write-out Inv-loop μ-loop
-array-write-out c = omega arith
+element-write-conductances : tie.Need-element-write-conductances Inv-loop μ-loop
+element-write-conductances c = omega arith
 
 add-k : tie.Need-add-k Inv-loop μ-loop
 add-k c = omega arith
@@ -67,16 +67,16 @@ loop-again : tie.Need-loop-again Inv-loop μ-loop
 unfolding reducedAt
 loop-again c =
     let at = c .before .before .before .before .before in
-    let a = at .before .before .args in (
+    let a = at .before .args in (
       omega arith,
       omega arith,
-      words-more (reducedAt (a .thickness) (now (a .horizontal)) (now (a .depths))) (map pos (now (a .horizontal))) (at .loop .out) (at .loop .k) (at .loop .inv .2) (c .reduced .ensures),
+      words-more (reducedAt (a .thickness) (now (a .horizontal)) (now (a .depths))) (map pos (now (a .conductances))) (at .loop .conductances) (at .loop .k) (at .loop .inv .2) (c .reduced .ensures),
     )
 
 returns : tie.Need-returns Inv-loop μ-loop
 returns c =
     let at = c .before in
-    let e : at .loop .k ≡ at .before .before .args .faces = omega arith in
+    let e : at .loop .k ≡ at .before .args .faces = omega arith in
     at .loop .inv .2 ∙ rw e
 
 pub in-use-spec : {M : Type 1} → statement M
@@ -95,8 +95,8 @@ in-use-spec =
     mul-reduced-3
     element-copy-out-reduced-3
     reduced-requires
-    mul-out
-    array-write-out
+    mul-conductances
+    element-write-conductances
     add-k
     loop-less
     loop-again

@@ -7,10 +7,12 @@ use lib.IntN.{pos}
 use Rattle.network.specs.Network.{lengthOut}
 use Rattle.validity.specs.Validity.{valid}
 use Rattle.flows.specs.Flows.{depthOf}
+use Rattle.validity.specs.Laws.{valid-record}
+use Rattle.readings.specs.Laws.{well-back}
 use Rattle.head_loss.specs.declared.Loss.the-variants.{Given}
 use Rattle.head_loss.specs.HeadLoss.{lossesAt}
 use Rattle.pipe.specs.Asked.{eOf}
-use Rattle.head_loss.proofs.Reading.{named, Begun, few-layers, refused-14, refused-12, refused-7, steady-asks, refused-8, from-one, screened-is, well-back, well-asks, inflows-ask, answered}
+use Rattle.head_loss.proofs.Reading.{named, Begun, few-layers, refused-14, refused-12, refused-7, steady-asks, refused-8, from-one, screened-is, well-asks, inflows-ask, answered}
 use Rattle.head_loss.proofs.head_loss.Statement.{statement}
 use Rattle.head_loss.proofs.head_loss.Tie as tie
 
@@ -20,7 +22,7 @@ passed : (c : tie.Else1) → valid (c .before .before .args .t1) ≡ true
 passed c = sym (c .before .valid .ensures) ∙ not-false _ (c .if1 .left)
 
 there : (c : tie.Else2) → named (c .before .before .before .before .before .before .before .before .args .t1) (c .before .before .before .before .before .before .before .before .args .layer) ≡ true
-there c = sym (c .before .before .screened-layer .ensures) ∙ not-false _ (c .if2 .left)
+there c = sym (c .before .before .screened-layer .ensures) ∙ not-false (c .before .before .screened-layer .result) (c .if2 .left)
 
 sized : (c : tie.Else3) → lengthOut (c .before .before .before .before .before .before .before .before .before .args .dt) ≡ false
 sized c = sym (c .before .before .length-out .ensures) ∙ c .if3 .left
@@ -30,7 +32,7 @@ begun c = record { passed = passed (c .before .before .before .before .before .b
 
 -- the well's drawdown
 at-well : (c : tie.After-drawdown) → pos (c .drawdown .result) ≡ depthOf (c .before .before .before .before .before .before .before .before .before .before .before .before .before .before .before .before .before .before .args .t1 .«well_loss») (c .before .before .before .before .before .before .before .before .before .before .before .before .before .before .before .before .before .before .args .t1 .«well_storage»)
-at-well c = rw (well-back _ _ _ (begun (c .before .before))) at (c .drawdown .ensures)
+at-well c = rw (well-back _ (valid-record _ (begun (c .before .before) .passed))) at (c .drawdown .ensures)
 
 -- ---- the answers
 
@@ -47,7 +49,7 @@ length-out-requires : tie.Need-length-out-requires
 length-out-requires c κs = tt
 
 returns-2 : tie.Need-returns-2
-returns-2 c = refused-12 _ _ _ (passed (c .before .before .before .before .before .before)) (sym (c .before .before .screened-layer .ensures) ∙ not-true _ (c .if2 .taken))
+returns-2 c = refused-12 _ _ _ (passed (c .before .before .before .before .before .before)) (sym (c .before .before .screened-layer .ensures) ∙ not-true (c .before .before .screened-layer .result) (c .if2 .taken))
 
 returns-3 : tie.Need-returns-3
 returns-3 c = refused-7 _ _ _ (passed (c .before .before .before .before .before .before .before)) (there (c .before)) (sym (c .before .before .length-out .ensures) ∙ c .if3 .taken)
@@ -59,7 +61,7 @@ returns-4 : tie.Need-returns-4
 returns-4 c = refused-8 _ _ _ (passed (c .before .before .before .before .before .before .before .before .before .before .before .before .before .before)) (there (c .before .before .before .before .before .before .before .before)) (sized (c .before .before .before .before .before .before .before)) (sym (c .before .steady .ensures) ∙ not-true _ (c .if4 .taken))
 
 drawdown-requires : tie.Need-drawdown-requires
-drawdown-requires c κs = rw (well-back _ _ _ (begun (c .before))) (well-asks _ _ _ (begun (c .before)))
+drawdown-requires c κs = rw (well-back _ (valid-record _ (begun (c .before) .passed))) (well-asks _ _ _ (begun (c .before)))
 
 inflows-requires : tie.Need-inflows-requires
 inflows-requires c κs = inflows-ask _ _ _ (begun (c .before .before .before .before .before .before)) _ (at-well (c .before .before .before .before))

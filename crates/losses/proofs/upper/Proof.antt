@@ -1,5 +1,7 @@
--- `losses::upper` meets its contract.
+-- `losses::upper` meets its contract: only the top layer has none above it.
 -- Assumes nothing.
+use Prim.Native.Nat.{_≤_}
+use native.Mathlib.Omega.{arith}
 use borrow.Author.Needs.{needs}
 use borrow.Author.Tests.{le-leb, lt-leb}
 use Rattle.laws.specs.Signed.{back}
@@ -7,6 +9,12 @@ use Rattle.laws.specs.Sums.{ifℤ}
 use Rattle.losses.specs.Losses.{upperAt}
 use Rattle.losses.proofs.upper.Statement.{statement}
 use Rattle.losses.proofs.upper.Tie as tie
+
+below-top : (c : tie.Else1) → 50 ≤ c .before .args .k
+below-top c = c .before .pre .2 (omega (arith, c .if1 .left))
+
+sub-result : tie.Need-sub-result
+sub-result c = omega (arith, below-top c)
 
 mul-result : tie.Need-mul-result
 mul-result c = search needs
@@ -16,11 +24,11 @@ element-copy-out-result c = search needs
 
 returns : tie.Need-returns
 unfolding upperAt ifℤ
-returns c = rw (le-leb _ _ (c .before .if1 .taken), back _ (c .result .given))
+returns c = rw (lt-leb _ _ (c .before .pre .1 (c .if1 .taken)))
 
 returns-2 : tie.Need-returns-2
 unfolding upperAt ifℤ
-returns-2 c = rw (lt-leb _ _ (c .if1 .left))
+returns-2 c = rw (le-leb _ _ (below-top (c .before)), back _ (c .result .given))
 
 pub upper-spec : {M : Type 1} → statement M
-upper-spec = tie.close (tie.spec mul-result element-copy-out-result returns returns-2)
+upper-spec = tie.close (tie.spec sub-result mul-result element-copy-out-result returns returns-2)

@@ -1,14 +1,18 @@
 -- `sameness::same` meets its contract: at each return the tests on the way give the definition's answer. Assumes nothing.
 use mathlib.Core.Path.{_≡_, sym, ap, _∙_}
 use mathlib.Core.Bool.{true}
+use Prim.Native.Nat.{_*_}
 use native.Mathlib.Omega.{arith}
 use lib.IntN.{pos}
 use borrow.Author.Tests.{not-true, not-false}
+use Rattle.laws.specs.All.{allBelow}
 use Rattle.validity.specs.Validity.{valid}
 use Rattle.validity.specs.Laws.{Valid, valid-record}
 use Rattle.flows.specs.Flows.{depthOf}
-use Rattle.bridge.specs.Depths.{depths-ask, well-ask, well-back}
+use Rattle.bridge.specs.Depths.{depths-ask, well-ask}
 use Rattle.readings.specs.declared.Sameness.{Sameness}
+use Rattle.readings.specs.Laws.{well-back}
+use Rattle.sameness.specs.Equal.{equalAt}
 use Rattle.sameness.proofs.Answer.{refused-first, refused-second, other-layers, other-columns, other-well, by-cells}
 use Rattle.sameness.proofs.same.Statement.{statement}
 use Rattle.sameness.proofs.same.Tie as tie
@@ -91,7 +95,9 @@ returns-6 c =
     let w = n .before in
     let e = w .before .before .before .before in
     let ok = both-valid (e .before .before) in
-    ap Sameness.Given (c .equal-below .ensures)
+    let r = e .before .before .before .before .before .before .args .t1 in
+    let slots : c .equal-below .result ≡ allBelow (50 * r .site .layers) (equalAt (one .drawdowns .result) (d .drawdowns2 .result)) = c .equal-below .ensures in
+    ap Sameness.Given slots
     ∙ by-cells _ _ (ok .0) (ok .1) (e .before .if3 .left) (e .if4 .left) (well-one (w .before .before)) (well-other w) (n .if5 .left)
     (one .drawdowns .result) (d .drawdowns2 .result) (one .drawdowns .ensures) (rw (e .before .if3 .left) at (d .drawdowns2 .ensures))
 

@@ -1,0 +1,10 @@
+-- `repeat::unmoved` meets its contract: it hands back what it was handed. Assumes nothing.
+use mathlib.Core.Path.{refl}
+use Rattle.repeat.proofs.unmoved.Statement.{statement}
+use Rattle.repeat.proofs.unmoved.Tie as tie
+
+returns : tie.Need-returns
+returns c = refl
+
+pub unmoved-spec : {M : Type 1} → statement M
+unmoved-spec = tie.close (tie.spec returns)

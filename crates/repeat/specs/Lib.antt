@@ -1,0 +1,3 @@
+pub mod Repeat
+pub mod Ran
+pub mod Laws
