@@ -3,7 +3,7 @@
 --     worked-losses, worked-well, worked-inflow     what it gives is the network's state after the step; worked-cell: the loss in one slot
 -- Assumes nothing.
 use mathlib.Core.Path.{_≡_, refl, sym, ap, ap₂, subst, _∙_}
-use mathlib.Core.Bool.{Bool, true, false, cond, _&&_, and-false}
+use mathlib.Core.Bool.{Bool, true, false, cond, and-false}
 use mathlib.Core.Logic.{⊎-elim}
 use mathlib.Core.List.{List, [], _∷_, map, Memᴰ·map}
 use Prim.Native.Nat.{ℕ, zero, suc, _+_, _*_, _-_, _/_, _%_, _^_, _≤_, _<_, zero-le}
@@ -19,9 +19,9 @@ use Rattle.laws.specs.Fill.{fill, length-fill, getD-fill, getD-fill-rest, getD-
 use Rattle.laws.specs.Integer.{regroup, pos-≤ℤ, not-past}
 use Rattle.laws.specs.Number.{below-or-not}
 use Rattle.laws.specs.Signed.{room-up}
-use Rattle.laws.specs.Sums.{ifℤ, sumℤ, range, sumℤ-ext, Room, mem-range, range-below, none-at, length-range, getD-map-range}
+use Rattle.laws.specs.Sums.{ifℤ, range, sumℤ-ext, Room, mem-range, range-below, none-at, length-range, getD-map-range}
 use Rattle.network.specs.Limits.{rateLimit, lengthLimit, storageLimit, totalLimit, drawdownLimit}
-use Rattle.network.specs.Network.{Network, State, isPlace, lossAt, drawdown, flow, outflow, lossAfter, lossesAfter, fromLastColumn, stable, tableTooDeep}
+use Rattle.network.specs.Network.{Network, State, lossAt, flow, outflow, lossAfter, lossesAfter, fromLastColumn, stable, tableTooDeep}
 use Rattle.network.specs.Grid.{place, storedColumns, layersOf, onePerPlace, acrossFace, downFace, networkOf}
 use Rattle.network.specs.laws.Bounds.{face-fits}
 use Rattle.network.specs.laws.Cells.{joined, outflow-cell, outflow-well, inward-last}
@@ -35,7 +35,7 @@ use Rattle.site.specs.Site.{isScreened}
 use Rattle.record.specs.declared.Record.{Record}
 use Rattle.record.specs.Record.{slot, slots, isCell, gridOf, stateOf}
 use Rattle.validity.specs.Laws.{Valid, valid-proper}
-use Rattle.worked.specs.Worked.{Lent, slotCount, depth, wellDepth, right, lower, fromWell, left, upper, toLast, lossAfter as slotAfter, wellAfter, inflowAfter, lossesOf, Workable}
+use Rattle.worked.specs.Worked.{Lent, depth, right, lower, fromWell, left, upper, toLast, lossAfter as slotAfter, wellAfter, inflowAfter, lossesOf, Workable}
 use Rattle.bridge.specs.Flows.{lentOf, counted, slot-at, none-lost, loss-past, storage-past, depth-past, right-past, lower-past, loss-cell, depth-column, depth-well, right-cell, lower-cell, from-well, left-cell, upper-cell, to-last}
 
 -- lists over a range whose elements are the same

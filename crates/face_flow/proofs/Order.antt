@@ -17,7 +17,7 @@ use Rattle.laws.specs.Refusal.First.{none, hit, skip}
 use Rattle.laws.specs.Signed.{small-fits, abs-neg}
 use Rattle.laws.specs.Sums.{or-no}
 use Rattle.network.specs.Limits.{lengthLimit, totalLimit}
-use Rattle.network.specs.Network.{water, flow, lengthOut, stable, unstable}
+use Rattle.network.specs.Network.{flow, lengthOut, stable, unstable}
 use Rattle.network.specs.Grid.{networkOf}
 use Rattle.site.specs.Laws.{Counts, counts-hold}
 use Rattle.record.specs.declared.Record.{Record}

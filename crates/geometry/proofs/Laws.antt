@@ -1,6 +1,6 @@
 -- The terms of a logarithm's series, and how large the numbers of the rules are.
 -- Assumes nothing.
-use mathlib.Core.Path.{_≡_, refl, sym, ap, _∙_}
+use mathlib.Core.Path.{_≡_, sym, ap, _∙_}
 use mathlib.Core.Bool.{or-true}
 use lib.Dec.{eqb}
 use Rattle.words.specs.Fitted.{fitted}

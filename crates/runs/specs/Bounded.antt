@@ -4,13 +4,12 @@
 -- Assumes nothing.
 use mathlib.Core.Path.{_≡_, refl, _∙_}
 use mathlib.Core.Bool.{Bool, true, false, not, cond}
-use mathlib.Core.List.{List, [], _∷_}
+use mathlib.Core.List.{_∷_}
 use Prim.Native.Nat.{ℕ, zero, suc, _+_, _*_, _≤_}
 use native.Mathlib.Nat.{le-trans}
 use native.Mathlib.Omega.{arith}
-use borrow.Author.Tests.{ltb-false, leb-true}
-use lib.Dec.{leb, ltb, eqb}
-use Rattle.laws.specs.All.{and-left, and-right}
+use borrow.Author.Tests.{ltb-false}
+use lib.Dec.{ltb, eqb}
 use Rattle.laws.specs.Every.{every}
 use Rattle.laws.specs.Refusal.{passed, first-most}
 use Rattle.laws.specs.Sums.{or-no}

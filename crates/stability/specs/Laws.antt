@@ -4,21 +4,20 @@
 --     well-network       10, and (table-network) 11, for losses by slot that are the losses by place
 -- Assumes nothing.
 use mathlib.Core.Path.{_≡_, refl, sym, ap, ap₂, subst, _∙_}
-use mathlib.Core.Bool.{Bool, true, false, not, _&&_, _||_}
+use mathlib.Core.Bool.{Bool, true, false, not, _||_}
 use mathlib.Core.Logic.{⊎-elim}
-use mathlib.Core.List.{List, map, List·Memᴰ, Memᴰ·map, Memᴰ·of-map}
+use mathlib.Core.List.{List, map, Memᴰ·map, Memᴰ·of-map}
 use Prim.Native.Nat.{ℕ, zero, suc, _+_, _*_, _-_, _/_, _%_, _^_, _≤_, _<_}
 use native.Mathlib.Omega.{arith}
-use native.Mathlib.Nat.{zero-add}
 use lib.Dec.{eqb, leb, ltb}
 use lib.IntN.{ℤ, pos}
 use lib.ListN.{getD}
 use lib.Signed.{ltZ}
-use borrow.Author.Tests.{eqb-true, ltb-true, lt-ltb, le-ltb, le-leb, lt-leb, ne-eqb, eq-eqb, not-true, not-false}
+use borrow.Author.Tests.{eqb-true, ltb-true, lt-ltb, le-ltb, le-leb, lt-leb, ne-eqb, eq-eqb, not-true}
 use Rattle.laws.specs.All.{allBelow, all-at, and-left, and-right}
 use Rattle.laws.specs.Number.{below-or-not}
 use Rattle.laws.specs.Rows.{same-test, four-hold, all-from}
-use Rattle.laws.specs.Sums.{ifℕ, sumℕ, range, some, sumℕ-ext, mem-range, range-mem, range-below, none, none-at}
+use Rattle.laws.specs.Sums.{ifℕ, range, sumℕ-ext, mem-range, range-mem, range-below, none, none-at}
 use Rattle.network.specs.Limits.{conductanceLimit}
 use Rattle.network.specs.Network.{lossAt, storageAt, drawdown, conductanceSum, stable, wellTooDeep, tableTooDeep}
 use Rattle.network.specs.Grid.{place, placeCount, storedColumns, layersOf, onePerPlace, networkOf}

@@ -4,18 +4,16 @@
 --     step-valid       so 14 does not refuse the record that a step taken gives
 -- Assumes nothing.
 use mathlib.Core.Path.{_≡_, refl, sym, ap, ap₂, fun-ext, _∙_}
-use mathlib.Core.Bool.{Bool, true, false, cond, not, _&&_, _||_}
+use mathlib.Core.Bool.{Bool, true, false, cond, not, _||_}
 use Prim.Native.Nat.{ℕ, zero, suc, _+_, _*_, _-_, _/_, _%_, _<_}
 use native.Mathlib.Nat.{zero-add}
 use native.Mathlib.Omega.{arith}
-use lib.Dec.{ltb}
 use lib.IntN.{ℤ, pos}
 use lib.ListN.{length, getD}
 use borrow.Author.Tests.{lt-ltb}
-use Rattle.laws.specs.All.{allBelow}
-use Rattle.laws.specs.Refusal.{first, passed}
+use Rattle.laws.specs.Refusal.{passed}
 use Rattle.laws.specs.Rows.{all-from}
-use Rattle.laws.specs.Sums.{range, getD-map-range}
+use Rattle.laws.specs.Sums.{getD-map-range}
 use Rattle.network.specs.Network.{State, lossAt, moved, stepTests, refusal}
 use Rattle.network.specs.Grid.{Grid, place, placeCount, networkOf, onePerPlace}
 use Rattle.network.specs.Kept.{Kept}

@@ -1,7 +1,7 @@
 -- One step on a record (document 01, 'A step' and 'Who brings a refusal about').
 -- Assumes nothing.
-use mathlib.Core.Bool.{Bool, not, cond}
-use mathlib.Core.List.{List, _∷_}
+use mathlib.Core.Bool.{not, cond}
+use mathlib.Core.List.{_∷_}
 use Prim.Native.Nat.{ℕ}
 use lib.IntN.{pos}
 use Rattle.laws.specs.Refusal.{first}

@@ -2,23 +2,23 @@
 -- Assumes nothing.
 use mathlib.Core.Path.{_≡_, refl, sym, ap, ap₂, subst, _∙_}
 use mathlib.Core.Bool.{Bool, true, false, cond, not, _&&_, _||_, and-false, or-true, false≢true}
-use mathlib.Core.List.{List, map, flatMap, List·Memᴰ, Memᴰ·map, Memᴰ·of-map}
-use Prim.Native.Nat.{ℕ, zero, suc, _+_, _*_, _-_, _/_, _%_, _≤_, _<_, zero-le}
+use mathlib.Core.List.{map, Memᴰ·map, Memᴰ·of-map}
+use Prim.Native.Nat.{ℕ, zero, suc, _+_, _*_, _-_, _/_, _%_, _≤_, _<_}
 use native.Mathlib.Nat.{div-lt-iff-lt-mul, le-refl, le-trans}
 use native.Mathlib.Omega.{arith}
 use borrow.Author.Tests.{leb-true, leb-false, le-leb, lt-leb, ltb-false, lt-ltb, le-ltb, eqb-true, eq-eqb, not-true}
 use lib.Dec.{leb, ltb, eqb}
 use lib.IntN.{ℤ, pos, negsuc, natAbs, _+ℤ_}
-use lib.ListN.{length, getD}
+use lib.ListN.{getD}
 use lib.Signed.{nonNeg, ltZ, _≤ℤ_}
-use Rattle.laws.specs.All.{allBelow, all-at, and-left, and-right}
+use Rattle.laws.specs.All.{all-at, and-left, and-right}
 use Rattle.laws.specs.Integer.{natural, pos-≤ℤ, ≤ℤ-pos}
 use Rattle.laws.specs.Rows.{both-hold, same-test, four-hold, all-from}
 use Rattle.laws.specs.RowSums.{sum-shift, sum-cut, sum-rows, sum-places}
-use Rattle.laws.specs.Sums.{ifℤ, sumℕ, sumℤ, range, some, sumℕ-ext, sumℕ-zero, sumℕ-map, sumℕ-flatMap, sumℤ-ext, sumℤ-pos, mem-range, range-mem, none, none-at}
+use Rattle.laws.specs.Sums.{ifℤ, sumℕ, range, sumℕ-ext, sumℕ-zero, sumℕ-map, sumℕ-flatMap, sumℤ-ext, sumℤ-pos, mem-range, range-mem, none, none-at}
 use Rattle.network.specs.Limits.{totalLimit, drawdownLimit}
-use Rattle.network.specs.Network.{Network, State, isPlace, lossAt, storageAt, drawdown, lossIn, wellTooDeep, tableTooDeep}
-use Rattle.network.specs.Grid.{Grid, storedColumns, layersOf, placeCount, place, onePerPlace, networkOf}
+use Rattle.network.specs.Network.{isPlace, lossAt, storageAt, drawdown, lossIn, wellTooDeep, tableTooDeep}
+use Rattle.network.specs.Grid.{storedColumns, layersOf, placeCount, place, onePerPlace, networkOf}
 use Rattle.network.specs.Kept.{Kept}
 use Rattle.network.specs.laws.Places.{by-place, place-below, getD-one, length-one}
 use Rattle.geometry.specs.Geometry.{wellStorage}

@@ -1,6 +1,6 @@
 -- `geometry::series`: the sum so far and the terms that are left make up the whole sum.
 -- Assumes nothing.
-use mathlib.Core.Path.{_≡_, refl, sym, ap, _∙_}
+use mathlib.Core.Path.{_≡_}
 use Prim.Native.Nat.{_+_, _*_, _-_, _/_, _^_, _≤_}
 use native.Mathlib.Nat.{div-le-self, div-le-of-le-mul}
 use native.Mathlib.Omega.{arith}
@@ -17,39 +17,30 @@ Inv-loop z w sum₀ t₀ k₀ sum t k = (k ≤ 16) × (t ≤ 2 ^ 29) × (sum ≤
 abbrev μ-loop : tie.MeasureT-loop
 μ-loop z w sum₀ t₀ k₀ sum t k = 16 - k
 
--- src/lib.rt:14:5
 loop-holds : tie.Need-loop-holds Inv-loop μ-loop
 loop-holds c = omega arith
 
--- src/lib.rt:15:21
 mul-sum : tie.Need-mul-sum Inv-loop μ-loop
 mul-sum c = omega arith
 
--- src/lib.rt:15:21
 add-sum : tie.Need-add-sum Inv-loop μ-loop
 add-sum c = omega arith
 
--- src/lib.rt:15:16
 div-sum : tie.Need-div-sum Inv-loop μ-loop
 div-sum c = omega arith
 
--- src/lib.rt:15:9
 add-sum-2 : tie.Need-add-sum-2 Inv-loop μ-loop
 add-sum-2 c = term-fits _ _ _ (omega arith) (omega arith)
 
--- src/lib.rt:16:13
 mul-t : tie.Need-mul-t Inv-loop μ-loop
 mul-t c = product-fits (2 ^ 29) (2 ^ 28) (omega arith) (omega arith) (omega arith)
 
--- src/lib.rt:17:9
 add-k : tie.Need-add-k Inv-loop μ-loop
 add-k c = omega arith
 
--- src/lib.rt:14:5
 loop-less : tie.Need-loop-less Inv-loop μ-loop
 loop-less c = omega arith
 
--- src/lib.rt:14:5
 loop-again : tie.Need-loop-again Inv-loop μ-loop
 loop-again c =
     let p : c .before .loop .t * c .before .before .args .w ≤ 2 ^ 29 * 2 ^ 28 = product-at-most (2 ^ 29) (2 ^ 28) (omega arith) (omega arith) in
@@ -57,7 +48,6 @@ loop-again c =
     let e = one-more (c .before .before .args .w) (c .before .loop .k) (c .before .loop .t) (omega arith) in
     (omega arith, div-le-of-le-mul (2 ^ 30) (omega arith), omega arith, omega arith)
 
--- src/lib.rt:7:1
 returns : tie.Need-returns Inv-loop μ-loop
 returns c =
     let e : terms (16 - c .before .loop .k) (c .before .before .args .w) (c .before .loop .k) (c .before .loop .t) ≡ 0 = none-left _ _ _ (omega arith) in

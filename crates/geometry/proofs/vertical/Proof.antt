@@ -1,6 +1,6 @@
 -- `geometry::vertical` meets its contract: the divisor is above 0 where neither conductivity is 0. Assumes nothing.
 use mathlib.Core.Path.{sym, ap, _∙_}
-use Prim.Native.Nat.{_*_, _≤_}
+use Prim.Native.Nat.{_*_}
 use native.Mathlib.Omega.{arith}
 use Rattle.words.specs.Fitted.{fitted}
 use Rattle.geometry.proofs.Laws.{product-at-most, sum-fits, product-fits, closed-above, closed-below, divisor-above, both-open}

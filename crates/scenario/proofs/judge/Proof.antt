@@ -1,6 +1,5 @@
 -- `scenario::judge` meets its contract: the form of the lines, then that of the sections, then what `made` says. Assumes nothing.
-use mathlib.Core.Path.{_≡_, sym, ap, _∙_}
-use Prim.Native.Nat.{ℕ}
+use mathlib.Core.Path.{sym, ap, _∙_}
 use native.Mathlib.Omega.{arith}
 use borrow.Author.Tests.{not-true, not-false}
 use Rattle.text.specs.Text.{numbers}

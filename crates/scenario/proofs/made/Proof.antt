@@ -2,7 +2,6 @@
 use mathlib.Core.Path.{sym, ap, ap₂, _∙_}
 use mathlib.Core.Bool.{_&&_}
 use borrow.Author.Tests.{not-true, not-false}
-use Rattle.record.specs.declared.Answer.{Answer}
 use Rattle.record.specs.declared.Outcome.the-variants.{Taken}
 use Rattle.coefficients.specs.Coefficients.{startRecord}
 use Rattle.scenario.proofs.Tests.{refused-by, taken-by, three, four, five, six, passed-all, held-is, made-is}

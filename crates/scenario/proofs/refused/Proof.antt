@@ -1,8 +1,5 @@
 -- `scenario::refused` meets its contract. Assumes nothing.
-use mathlib.Core.Path.{ap}
 use borrow.Author.Needs.{needs}
-use Rattle.record.specs.declared.Answer.{Answer}
-use Rattle.record.specs.declared.Outcome.the-variants.{Refused}
 use Rattle.scenario.proofs.refused.Statement.{statement}
 use Rattle.scenario.proofs.refused.Tie as tie
 

@@ -1,5 +1,5 @@
 -- `slots::coefficients_hold`: the four arrays one after the other, as the definition has them. Assumes nothing.
-use mathlib.Core.Path.{_≡_, sym, _∙_}
+use mathlib.Core.Path.{sym, _∙_}
 use borrow.Author.Needs.{needs}
 use borrow.Author.Tests.{not-true, not-false}
 use Rattle.slots.specs.Held.{slotsHold}

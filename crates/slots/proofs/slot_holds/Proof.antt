@@ -1,5 +1,5 @@
 -- `slots::slot_holds`: the tests on the way are the definition's. Assumes nothing.
-use mathlib.Core.Path.{_≡_, sym, _∙_}
+use mathlib.Core.Path.{sym, _∙_}
 use borrow.Author.Needs.{needs}
 use borrow.Author.Tests.{not-true, not-false, le-leb, lt-leb}
 use Rattle.slots.specs.Held.{slotHolds}

@@ -2,7 +2,6 @@
 use mathlib.Core.Path.{_≡_}
 use Prim.Native.Nat.{_*_, _-_, _≤_}
 use native.Mathlib.Omega.{arith}
-use lib.ListN.{getD}
 use Rattle.network.specs.Limits.{conductanceLimit}
 use Rattle.stability.specs.Judged.{wellSum}
 use Rattle.stability.proofs.Laws.{well-none, well-more}

@@ -1,5 +1,5 @@
 -- `validity::counts_hold`: the tests one after the other. Assumes nothing.
-use mathlib.Core.Path.{_≡_, sym, _∙_}
+use mathlib.Core.Path.{sym, _∙_}
 use borrow.Author.Tests.{not-true, not-false}
 use borrow.Author.Needs.{needs}
 use Rattle.validity.proofs.counts_hold.Statement.{statement}
