@@ -1,7 +1,7 @@
 -- The high word of a loss times the multiplier of its storage is the drawdown, or one less; and stores in arrays, of multipliers and of words
 -- that stand for integers.
 -- Assumes nothing.
-use mathlib.Core.Path.{_≡_, refl, ap, subst, _∙_}
+use mathlib.Core.Path.{_≡_, refl, subst, _∙_}
 use mathlib.Core.List.{List, [], _∷_, map}
 use Prim.Native.Nat.{ℕ, zero, suc, _+_, _*_, _-_, _/_, _%_, _^_, _≤_, _<_}
 use native.Mathlib.Nat.{mul-assoc, mul-le-mul-left, mul-le-mul-right, div-add-mod', mod-lt, div-lt-iff-lt-mul, lt-of-mul-lt-mul-right}
@@ -15,6 +15,7 @@ use Rattle.laws.specs.Divide.{divided}
 use Rattle.laws.specs.Fill.{getD-same}
 use Rattle.laws.specs.Integer.{natural}
 use Rattle.laws.specs.Span.{span, span-more}
+use Rattle.flows.proofs.Laws.{map-set}
 use Rattle.depths.specs.Depths.{multiplierOf, Stands, Multiplied}
 
 -- a loss is below half of what a word holds
@@ -101,11 +102,6 @@ none-multiplied n ss = record { at = λ k. rw (getD-same {A = ℕ} n k 0) (recor
 -- a turn's store
 pub more-multiplied : {ms ss : List ℕ} (k m : ℕ) → Multiplied ms ss → Stands m (getD ss k 0) → Multiplied (set ms k m) ss
 more-multiplied {ms} {ss} k m all h = record { at = set-each (λ j w. Stands w (getD ss j 0)) ms k m h (all .at) }
-
-map-set : (l : List ℕ) (k v : ℕ) → map pos (set l k v) ≡ set (map pos l) k (pos v)
-map-set [] k v = refl
-map-set (x ∷ l) zero v = refl
-map-set (x ∷ l) (suc k) v = ap (λ m. pos x ∷ m) (map-set l k v)
 
 -- a turn's store of v at s + n, where the words stand for integers
 pub words-span : (f : ℕ → ℤ) (l : List ℤ) (out : List ℕ) (s n : ℕ) {v : ℕ} → map pos out ≡ span s n f l → pos v ≡ f (s + n) → map pos (set out (s + n) v) ≡ span s (n + 1) f l

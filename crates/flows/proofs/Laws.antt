@@ -60,7 +60,7 @@ module _ (c a b dt : ℕ) where
     back-small h = rw (back-is h, abs-neg (pos (c * ((a - b) * dt) / 10 ^ 12))) at small
 
 -- ---- stores
-map-set : (l : List ℕ) (k v : ℕ) → map pos (set l k v) ≡ set (map pos l) k (pos v)
+pub map-set : (l : List ℕ) (k v : ℕ) → map pos (set l k v) ≡ set (map pos l) k (pos v)
 map-set [] k v = refl
 map-set (x ∷ l) zero v = refl
 map-set (x ∷ l) (suc k) v = ap (λ m. pos x ∷ m) (map-set l k v)

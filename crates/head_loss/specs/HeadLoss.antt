@@ -1,6 +1,6 @@
 -- Head loss of one screened layer of a record (document 01, 'Readings', last paragraph).
--- The formulas stand in hydraulics, the layers along the pipe in pipe. Layers count from 0 here (01's layer is one more). Lengths are mm, water nl, Δt µs, flows l/s, velocities m/s,
--- head losses m.
+-- The formulas stand in hydraulics, the layers along the pipe in pipe. Layers count from 0 here (01's layer is one more).
+-- Lengths are mm, water nl, Δt µs, flows l/s, velocities m/s, head losses m.
 -- Assumes nothing.
 use mathlib.Core.Bool.{Bool, not, _&&_}
 use mathlib.Core.List.{List, [], _∷_}
