@@ -1,4 +1,4 @@
-// Times the proved quotients of crates/words, through crates/exports, against the same quotients by u128. Both sides are called the same
+// Times the proved quotients of crates/words, through crates/bench_quotients, against the same quotients by u128. Both sides are called the same
 // way, once a pair of operands; they take turns over the same pairs, and the best round of each counts. The sums of the quotients must agree.
 use std::hint::black_box;
 use std::time::Instant;
@@ -12,9 +12,9 @@ const MOST_STORAGE: u64 = 1_000_000_000_000_000_000; // S, nl per m
 const MOST_DRAWDOWN: u64 = 1_000_000_000; // D, µm
 
 extern "C" {
-    fn exports_word(v: u64, s: u64) -> u64;
-    fn exports_fitted(v: u64, s: u64) -> u64;
-    fn exports_literal(a: u64, b: u64) -> u64;
+    fn bench_word(v: u64, s: u64) -> u64;
+    fn bench_fitted(v: u64, s: u64) -> u64;
+    fn bench_literal(a: u64, b: u64) -> u64;
 }
 
 #[inline(never)]
@@ -91,9 +91,9 @@ fn compare(name: &str, pairs: &Pairs, ours: impl Fn(u64, u64) -> u64, theirs: im
 }
 
 fn main() {
-    let word = |v, s| unsafe { exports_word(v, s) };
-    let fitted = |v, s| unsafe { exports_fitted(v, s) };
-    let literal = |a, b| unsafe { exports_literal(a, b) };
+    let word = |v, s| unsafe { bench_word(v, s) };
+    let fitted = |v, s| unsafe { bench_fitted(v, s) };
+    let literal = |a, b| unsafe { bench_literal(a, b) };
     let seq = &mut Sequence(88172645463325252);
     let any = losses(seq, 1, MOST_STORAGE);
     let small = losses(seq, 1, MILLION);

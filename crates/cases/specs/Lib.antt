@@ -1,4 +1,3 @@
-pub mod Accepted
 pub mod BoreK
-pub mod Steps
+pub mod Started
 pub mod Table

@@ -1,36 +1,33 @@
 -- What the test of the slots says, whose numbers are capped: it is that of 6, and where it holds no number was capped.
--- Assumes nothing.
 use mathlib.Core.Path.{_≡_, refl, sym, ap, _∙_}
-use mathlib.Core.Bool.{Bool, true, false, cond, _&&_, _||_, and-true, and-false}
+use mathlib.Core.Bool.{Bool, true, false, cond, _&&_, and-true, and-false}
 use mathlib.Core.List.{List}
 use mathlib.Core.Logic.{_⊎_, ⊎-elim}
 use Prim.Native.Nat.{ℕ, suc, _+_, _-_, _/_, _%_, _^_, _≤_, _<_}
 use native.Mathlib.Omega.{arith}
 use borrow.Author.Tests.{lt-leb, ltb-true}
-use lib.Dec.{leb, ltb, eqb}
+use lib.Dec.{leb, ltb}
 use lib.IntN.{pos}
-use lib.ListN.{getD, replicate}
-use Rattle.laws.specs.All.{allBelow, and-left, and-right}
+use lib.ListN.{replicate}
+use Rattle.laws.specs.All.{and-left, and-right}
 use Rattle.laws.specs.Number.{below-or-not}
 use Rattle.laws.specs.Ranges.{map-range-ext}
-use Rattle.laws.specs.Rows.{all-from}
 use Rattle.words.specs.Laws.{fitted-word, fitted-over}
-use Rattle.network.specs.Limits.{conductanceLimit, storageLimit}
+use Rattle.limits.specs.Limits.{conductanceLimit, storageLimit, between}
 use Rattle.geometry.specs.Geometry.{wellStorage}
 use Rattle.site.specs.declared.Site.{Site}
 use Rattle.site.specs.Laws.{counts-hold}
-use Rattle.site.specs.Limits.{between}
 use Rattle.site.specs.Site.{isScreened, countsHold}
 use Rattle.record.specs.declared.Record.{Record}
 use Rattle.record.specs.Record.{slots, layerSlots, isCell, hasBelow, hasScreen, gridOf, zeroRecord}
-use Rattle.slots.specs.Held.{slotsHold}
-use Rattle.slots.specs.Laws.{Alike, coefficients-hold, coefficients-ext, slots-coefficients}
-use Rattle.slots.specs.Slots.{coefficientsHold, zeroUnused, coefficientsUnused}
+use Rattle.coefficient_slots.specs.Held.{slotsHold}
+use Rattle.coefficient_slots.specs.Laws.{Alike, coefficients-hold, coefficients-ext, slots-coefficients}
+use Rattle.coefficient_slots.specs.Slots.{coefficientsHold, coefficientsUnused}
 use Rattle.coefficients.specs.declared.Coefficients.{Coefficients}
-use Rattle.cells.specs.Cells.{acrossOf, downOf, storageOf}
+use Rattle.coefficient_cells.specs.Cells.{acrossOf, downOf, storageOf}
 use Rattle.coefficients.specs.Coefficients.{scenarioGrid, startRecord, coefficientsOf}
-use Rattle.coefficients.specs.Laws.{getD-slot, getD-layerSlots, slotted, screen-at, across-at, down-at, storage-at}
-use Rattle.cells.specs.Worked.{wordOf, capped, slotOf}
+use Rattle.coefficients.specs.Laws.{slotted, slotted-unused, screen-at, across-at, down-at, storage-at}
+use Rattle.coefficient_cells.specs.Worked.{wordOf, capped, slotOf}
 
 -- ---- a capped number is within a limit where the number is, and then it is the number
 capped-fits : {n : ℕ} → n < 2 ^ 64 → capped n ≡ n
@@ -57,22 +54,10 @@ most-capped hi n h =
     (below-or-not n (2 ^ 64))
 
 -- ---- a slot
-spared : (b : Bool) (n : ℕ) → (b || eqb (slotOf b n) 0) ≡ true
-unfolding slotOf
-spared true n = refl
-spared false n = refl
-
 slot-held : (b : Bool) {n hi : ℕ} → hi < 2 ^ 64 → (b ≡ true → n ≤ hi) → slotOf b n ≡ cond b n 0
 unfolding slotOf
 slot-held true h f = let most = f refl in capped-fits (omega arith)
 slot-held false h f = refl
-
-slots-spared : (used : ℕ → ℕ → Bool) (value : ℕ → ℕ → ℕ) → zeroUnused used (slots (λ i j. slotOf (used i j) (value i j))) ≡ true
-unfolding zeroUnused
-slots-spared used value =
-    all-from _ 1000 (λ k h.
-    ap (λ (x : ℕ). used (k / 50) (k % 50 + 1) || eqb x 0) (getD-slot (λ i j. slotOf (used i j) (value i j)) k h)
-    ∙ spared (used (k / 50) (k % 50 + 1)) (value (k / 50) (k % 50 + 1)))
 
 slots-held : (used : ℕ → ℕ → Bool) (value : ℕ → ℕ → ℕ) (hi : ℕ) → hi < 2 ^ 64
     → ((i j : ℕ) → used i j ≡ true → 1 ≤ j → value i j ≤ hi)
@@ -113,13 +98,8 @@ module _ (s : Site) (counts : countsHold s ≡ true) where
       }
 
   none-left : coefficientsUnused (slotted slotOf s) ≡ true
-  unfolding coefficientsUnused slotted
-  none-left =
-      let screen : allBelow 20 (λ i. hasScreen s i || eqb (getD (layerSlots (λ i. slotOf (hasScreen s i) (acrossOf s i 0))) i 0) 0) ≡ true =
-      all-from _ 20 (λ i h.
-      ap (λ (x : ℕ). hasScreen s i || eqb x 0) (getD-layerSlots (λ i. slotOf (hasScreen s i) (acrossOf s i 0)) i h)
-      ∙ spared (hasScreen s i) (acrossOf s i 0)) in
-      rw (screen, slots-spared (isCell s) (acrossOf s), slots-spared (hasBelow s) (downOf s), slots-spared (isCell s) (storageOf s))
+  unfolding slotOf
+  none-left = slotted-unused slotOf s (λ n. refl)
 
   module _ {screen horizontal vertical storages : List ℕ}
       (screens : screen ≡ layerSlots (λ i. slotOf (hasScreen s i) (acrossOf s i 0)))
@@ -137,7 +117,7 @@ module _ (s : Site) (counts : countsHold s ≡ true) where
           ∙ coefficients-ext (gridOf (slotted slotOf s)) (scenarioGrid s) alike)
 
       -- ---- the answer
-      pub taken : {well : ℕ} → coefficientsHold (scenarioGrid s) ≡ true → well ≡ wellStorage (s .area)
+      pub taken : {well : ℕ} → coefficientsHold (scenarioGrid s) ≡ true → well ≡ wellStorage (s .«water_area»)
           → _≡_ {A = Coefficients}
           (record {
             held = true;

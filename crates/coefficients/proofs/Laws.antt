@@ -1,5 +1,4 @@
 -- Laws that this crate's proofs share: what the tests of a scenario say, which layers the well has a face with, what an array filled whole is.
--- Assumes nothing.
 use mathlib.Core.Path.{_≡_, _∙_}
 use mathlib.Core.Bool.{true, and-false}
 use mathlib.Core.List.{List, map}
@@ -8,16 +7,16 @@ use native.Mathlib.Omega.{arith}
 use borrow.Author.Tests.{lt-ltb, eq-eqb, ne-eqb}
 use lib.Dec.{ltb}
 use lib.ListN.{getD, replicate}
-use Rattle.laws.specs.Sums.{range}
+use Rattle.laws.specs.Lists.{range}
 use Rattle.laws.specs.Fill.{fill, fill-range}
 use Rattle.site.specs.declared.Site.{Site}
 use Rattle.site.specs.Laws.{counts-hold, numbers-hold, radii-hold}
 use Rattle.site.specs.Site.{isScreened, countsHold, numbersHold, radiiHold}
 use Rattle.record.specs.Record.{isCell, hasScreen}
-use Rattle.cells.specs.Worked.{Judged, slotOf}
+use Rattle.coefficient_cells.specs.Worked.{InLimits, slotOf}
 
 -- ---- what the tests of 2, 3 and 4 say
-pub judged-site : (s : Site) → countsHold s ≡ true → numbersHold s ≡ true → radiiHold s ≡ true → Judged s
+pub judged-site : (s : Site) → countsHold s ≡ true → numbersHold s ≡ true → radiiHold s ≡ true → InLimits s
 judged-site s counts numbers radii = record { counts = counts-hold s counts; numbers = numbers-hold s numbers; rises = radii-hold s numbers radii }
 
 -- ---- the well's faces

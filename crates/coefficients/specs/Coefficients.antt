@@ -1,17 +1,16 @@
 -- The coefficients of a scenario: its grid, with C of every face and S of every place, and the record at the start.
--- Layers count from 0 (01's layer is one more); columns from 1, and column 0 is the well.
--- Assumes nothing.
 use mathlib.Core.Bool.{cond}
 use lib.IntN.{pos}
 use lib.ListN.{getD, replicate}
+use Rattle.limits.specs.Limits.{cellPlaces}
 use Rattle.network.specs.Grid.{Grid}
 use Rattle.geometry.specs.Geometry.{wellStorage}
 use Rattle.site.specs.declared.Site.{Site}
 use Rattle.site.specs.Site.{isScreened}
-use Rattle.cells.specs.Cells.{acrossOf, downOf, storageOf}
+use Rattle.coefficient_cells.specs.Cells.{acrossOf, downOf, storageOf}
 use Rattle.record.specs.declared.Record.{Record}
 use Rattle.record.specs.Record.{isCell, hasBelow, hasScreen, slots, layerSlots, zeroRecord}
-use Rattle.slots.specs.Slots.{coefficientsHold}
+use Rattle.coefficient_slots.specs.Slots.{coefficientsHold}
 use Rattle.coefficients.specs.declared.Coefficients.{Coefficients}
 
 -- the grid of a scenario
@@ -23,7 +22,7 @@ scenarioGrid s = record {
   across = acrossOf s;
   down = downOf s;
   storage = storageOf s;
-  wellStorage = wellStorage (s .area);
+  wellStorage = wellStorage (s .«water_area»);
   thickness = getD (s .thickness) 0 0;
   intake = s .intake;
 }
@@ -36,8 +35,8 @@ startRecord s = record {
   horizontal = slots (λ i j. cond (isCell s i j) (acrossOf s i j) 0);
   vertical = slots (λ i j. cond (hasBelow s i j) (downOf s i j) 0);
   storages = slots (λ i j. cond (isCell s i j) (storageOf s i j) 0);
-  losses = replicate 1000 (pos 0);
-  «well_storage» = wellStorage (s .area);
+  losses = replicate cellPlaces (pos 0);
+  «well_storage» = wellStorage (s .«water_area»);
   «well_loss» = pos 0;
   pumped = 0;
   inflow = pos 0;

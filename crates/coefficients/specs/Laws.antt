@@ -1,22 +1,24 @@
 -- What the record at the start is, for the proofs of this and other crates: laws only, nothing to believe.
 --     start-network        its network is the scenario's
 --     start-state          its state is that of a network at rest
---     screen-at, ..        the coefficients of a grid that a record of slots (slotted) holds
--- Assumes nothing.
+--     screen-at, ..        the coefficients of a grid that a record of slots (slotted) holds; slotted-unused: the slots that none uses
 use mathlib.Core.Path.{_≡_, refl, sym, ap, ap₂, _∙_}
-use mathlib.Core.Bool.{Bool, true, false, cond}
+use mathlib.Core.Bool.{Bool, true, false, cond, _||_}
 use mathlib.Core.List.{List, [], _∷_, _++_, map, flatMap}
 use Prim.Native.Nat.{ℕ, zero, suc, _+_, _*_, _-_, _/_, _%_, _≤_, _<_}
 use native.Mathlib.Nat.{zero-add, add-comm}
 use native.Mathlib.Numerals.{add-one}
 use native.Mathlib.Omega.{arith}
-use borrow.Author.Tests.{lt-ltb}
+use borrow.Author.Tests.{lt-ltb, eq-eqb}
 use lib.Dec.{eqb}
 use lib.IntN.{ℤ, pos}
 use lib.ListN.{getD, replicate}
 use Rattle.laws.specs.Fill.{getD-same}
 use Rattle.laws.specs.Ranges.{map-range-ext, flatMap-range-ext, map-range-same, flatMap-range-same}
-use Rattle.laws.specs.Sums.{range, getD-map-range}
+use Rattle.laws.specs.Lists.{range, allBelow}
+use Rattle.laws.specs.Rows.{all-from}
+use Rattle.laws.specs.Sums.{getD-map-range}
+use Rattle.limits.specs.Limits.{layerPlaces, columnPlaces, cellPlaces}
 use Rattle.network.specs.Network.{Face, Network, atRest}
 use Rattle.network.specs.Grid.{Grid, storedColumns, layersOf, upperLayers, placeCount, place, onePerPlace, acrossFace, downFace, screenFaces, facesOf, networkOf}
 use Rattle.geometry.specs.Geometry.{wellStorage}
@@ -25,22 +27,23 @@ use Rattle.site.specs.Laws.{Counts, counts-hold}
 use Rattle.site.specs.Site.{isScreened, countsHold}
 use Rattle.record.specs.declared.Record.{Record}
 use Rattle.record.specs.Record.{slot, slots, layerSlots, isCell, hasBelow, hasScreen, acrossIn, gridOf, stateOf}
-use Rattle.cells.specs.Cells.{acrossOf, downOf, storageOf}
+use Rattle.coefficient_slots.specs.Slots.{usedSlot, zeroUnused, coefficientsUnused}
+use Rattle.coefficient_cells.specs.Cells.{acrossOf, downOf, storageOf}
 use Rattle.coefficients.specs.Coefficients.{scenarioGrid, startRecord}
 
 -- ---- what stands in a slot
-pub getD-slot : (f : ℕ → ℕ → ℕ) (k : ℕ) → k < 1000 → getD (slots f) k 0 ≡ f (k / 50) (k % 50 + 1)
+getD-slot : (f : ℕ → ℕ → ℕ) (k : ℕ) → k < cellPlaces → getD (slots f) k 0 ≡ f (k / columnPlaces) (k % columnPlaces + 1)
 unfolding slots
 getD-slot f k h =
-    getD-map-range (λ k. f (k / 50) (k % 50 + 1)) 0 0 1000 k h ∙ ap (λ (m : ℕ). f (m / 50) (m % 50 + 1)) (zero-add k)
+    getD-map-range (λ k. f (k / columnPlaces) (k % columnPlaces + 1)) 0 0 cellPlaces k h ∙ ap (λ (m : ℕ). f (m / columnPlaces) (m % columnPlaces + 1)) (zero-add k)
 
-pub getD-slots : (f : ℕ → ℕ → ℕ) (i j : ℕ) → i < 20 → 1 ≤ j → j ≤ 50 → getD (slots f) (slot i j) 0 ≡ f i j
+getD-slots : (f : ℕ → ℕ → ℕ) (i j : ℕ) → i < layerPlaces → 1 ≤ j → j ≤ columnPlaces → getD (slots f) (slot i j) 0 ≡ f i j
 unfolding slot
-getD-slots f i j h one k = getD-slot f (50 * i + (j - 1)) (omega arith) ∙ ap₂ f (omega arith) (omega arith)
+getD-slots f i j h one k = getD-slot f (columnPlaces * i + (j - 1)) (omega arith) ∙ ap₂ f (omega arith) (omega arith)
 
-pub getD-layerSlots : (f : ℕ → ℕ) (i : ℕ) → i < 20 → getD (layerSlots f) i 0 ≡ f i
+getD-layerSlots : (f : ℕ → ℕ) (i : ℕ) → i < layerPlaces → getD (layerSlots f) i 0 ≡ f i
 unfolding layerSlots
-getD-layerSlots f i h = getD-map-range f 0 0 20 i h ∙ ap f (zero-add i)
+getD-layerSlots f i h = getD-map-range f 0 0 layerPlaces i h ∙ ap f (zero-add i)
 
 -- ---- the record at the start, but with what `put` makes of each coefficient, by whether its slot is used
 unfoldable pub slotted : (Bool → ℕ → ℕ) → Site → Record
@@ -50,8 +53,8 @@ slotted put s = record {
   horizontal = slots (λ i j. put (isCell s i j) (acrossOf s i j));
   vertical = slots (λ i j. put (hasBelow s i j) (downOf s i j));
   storages = slots (λ i j. put (isCell s i j) (storageOf s i j));
-  losses = replicate 1000 (pos 0);
-  «well_storage» = wellStorage (s .area);
+  losses = replicate cellPlaces (pos 0);
+  «well_storage» = wellStorage (s .«water_area»);
   «well_loss» = pos 0;
   pumped = 0;
   inflow = pos 0;
@@ -85,6 +88,29 @@ module _ (put : Bool → ℕ → ℕ) (s : Site) (counts : Counts s) where
   storage-at i j h one k =
       getD-slots (λ i j. put (isCell s i j) (storageOf s i j)) i j (omega (arith, counts .layers-most)) one (omega (arith, counts .columns-most))
       ∙ rw (lt-ltb i (s .layers) h, lt-ltb j (s .columns) k)
+
+-- where an unused slot gets 0, it is 0 in every slot that no face or cell uses
+module _ (put : Bool → ℕ → ℕ) (s : Site) (spare : (n : ℕ) → put false n ≡ 0) where
+  spared : (b : Bool) (n : ℕ) → (b || eqb (put b n) 0) ≡ true
+  spared true n = refl
+  spared false n = eq-eqb (put false n) 0 (spare n)
+
+  slots-spared : (used : ℕ → ℕ → Bool) (value : ℕ → ℕ → ℕ) → zeroUnused used (slots (λ i j. put (used i j) (value i j))) ≡ true
+  unfolding zeroUnused
+  slots-spared used value =
+      all-from _ cellPlaces (λ k h.
+      ap (λ (x : ℕ). usedSlot used k || eqb x 0) (getD-slot (λ i j. put (used i j) (value i j)) k h)
+      ∙ spared (usedSlot used k) (value (k / columnPlaces) (k % columnPlaces + 1)))
+
+  screen-spared : allBelow layerPlaces (λ i. hasScreen s i || eqb (getD (layerSlots (λ i. put (hasScreen s i) (acrossOf s i 0))) i 0) 0) ≡ true
+  screen-spared =
+      all-from _ layerPlaces (λ i h.
+      ap (λ (x : ℕ). hasScreen s i || eqb x 0) (getD-layerSlots (λ i. put (hasScreen s i) (acrossOf s i 0)) i h)
+      ∙ spared (hasScreen s i) (acrossOf s i 0))
+
+  pub slotted-unused : coefficientsUnused (slotted put s) ≡ true
+  unfolding coefficientsUnused slotted
+  slotted-unused = rw (screen-spared, slots-spared (isCell s) (acrossOf s), slots-spared (hasBelow s) (downOf s), slots-spared (isCell s) (storageOf s))
 
 -- ---- two grids that differ at most where no face or cell is have the same network
 face-same : {one one′ two two′ c c′ : ℕ} (u : Bool) → one ≡ one′ → two ≡ two′ → c ≡ c′
@@ -163,7 +189,7 @@ module _ (s : Site) (counts : countsHold s ≡ true) where
       let put : Bool → ℕ → ℕ = λ used n. cond used n 0 in
       let G = gridOf (slotted put s) in
       rw (start-slotted s)
-      (network-same (s .layers) (s .columns) (isScreened (s .screened)) (wellStorage (s .area)) (getD (s .thickness) 0 0) (s .intake)
+      (network-same (s .layers) (s .columns) (isScreened (s .screened)) (wellStorage (s .«water_area»)) (getD (s .thickness) 0 0) (s .intake)
       (G .across) (G .down) (G .storage) (acrossOf s) (downOf s) (storageOf s)
       (screen-at put s known) (across-at put s known) (down-at put s known) (storage-at put s known))
 
@@ -172,10 +198,10 @@ module _ (s : Site) (counts : countsHold s ≡ true) where
   unfolding stateOf startRecord gridOf scenarioGrid atRest networkOf onePerPlace storedColumns layersOf placeCount
   start-state = ap (λ (l : List ℤ). record { losses = l; pumped = 0; inflow = pos 0; time = 0 }) still
     where
-      still : pos 0 ∷ flatMap (λ i. map (λ j. getD (replicate 1000 (pos 0)) (slot i j) (pos 0)) (range 1 (s .columns - 1))) (range 0 (s .layers))
+      still : pos 0 ∷ flatMap (λ i. map (λ j. getD (replicate cellPlaces (pos 0)) (slot i j) (pos 0)) (range 1 (s .columns - 1))) (range 0 (s .layers))
           ≡ replicate (1 + s .layers * (s .columns - 1)) (pos 0)
       still =
           ap (λ (l : List ℤ). pos 0 ∷ l)
           (flatMap-range-same (pos 0) _ 0 (s .layers) (s .columns - 1)
-          (λ i. map-range-same (pos 0) _ 1 (s .columns - 1) (λ j. getD-same 1000 (slot i j) (pos 0))))
+          (λ i. map-range-same (pos 0) _ 1 (s .columns - 1) (λ j. getD-same cellPlaces (slot i j) (pos 0))))
           ∙ ap (λ (n : ℕ). replicate n (pos 0)) (sym (add-comm 1 (s .layers * (s .columns - 1)) ∙ add-one (s .layers * (s .columns - 1))))

@@ -1,25 +1,29 @@
 // The coefficients of a scenario, judged by rule 6, and the record at the start.
-use cells::across;
-use cells::columns_of;
-use cells::down;
-use cells::storage;
+use coefficient_cells::across;
+use coefficient_cells::columns_of;
+use coefficient_cells::down;
+use coefficient_cells::storage;
+use coefficient_slots::coefficients_hold;
 use geometry::well_storage;
+use limits::CELL_PLACES;
+use limits::COLUMN_PLACES;
+use limits::LAYER_PLACES;
 use record::Record;
 use record::all_zero;
 use site::Site;
-use slots::coefficients_hold;
 ghost use mathlib.Core.Path.{_≡_};
 ghost use mathlib.Core.Bool.{true};
 ghost use Prim.Native.Nat.{_<_};
+ghost use Rattle.limits.specs.Limits.{layerPlaces};
 ghost use Rattle.site.specs.Site.{countsHold, numbersHold, radiiHold};
 ghost use Rattle.record.specs.Record.{slots, layerSlots, isCell, hasBelow, hasScreen};
-ghost use Rattle.cells.specs.Cells.{acrossOf, downOf, storageOf};
-ghost use Rattle.cells.specs.Worked.{Judged, Logarithms, Areas, slotOf};
+ghost use Rattle.coefficient_cells.specs.Cells.{acrossOf, downOf, storageOf};
+ghost use Rattle.coefficient_cells.specs.Worked.{InLimits, Logarithms, Areas, slotOf};
 ghost use Rattle.coefficients.specs.Coefficients.{coefficientsOf};
 
 // C of layer i between the well and column 1, if the layer is screened.
-fn at_well(site: Site, logarithms: &[u64; 50], i: usize) -> u64
-    requires { ⌜ Judged site × Logarithms site (now logarithms) × (i < 20) ⌝ }
+fn at_well(site: Site, logarithms: &[u64; COLUMN_PLACES], i: usize) -> u64
+    requires { ⌜ InLimits site × Logarithms site (now logarithms) × (i < layerPlaces) ⌝ }
     ensures { λ r. ⌜ r ≡ slotOf (hasScreen site i) (acrossOf site i 0) ⌝ }
 {
     if site.screened[i] != 1 {
@@ -29,13 +33,13 @@ fn at_well(site: Site, logarithms: &[u64; 50], i: usize) -> u64
 }
 
 // The coefficients of the well's faces, each in its layer's slot.
-fn screen_of(site: Site, logarithms: &[u64; 50]) -> [u64; 20]
-    requires { ⌜ Judged site × Logarithms site (now logarithms) ⌝ }
+fn screen_of(site: Site, logarithms: &[u64; COLUMN_PLACES]) -> [u64; LAYER_PLACES]
+    requires { ⌜ InLimits site × Logarithms site (now logarithms) ⌝ }
     ensures { λ r. ⌜ r ≡ layerSlots (λ i. slotOf (hasScreen site i) (acrossOf site i 0)) ⌝ }
 {
-    let mut screen: [u64; 20] = [0; 20];
+    let mut screen: [u64; LAYER_PLACES] = [0; LAYER_PLACES];
     let mut i = 0;
-    while i < 20 {
+    while i < LAYER_PLACES {
         screen[i] = at_well(site, logarithms, i);
         i += 1;
     }
@@ -44,25 +48,29 @@ fn screen_of(site: Site, logarithms: &[u64; 50]) -> [u64; 20]
 
 // The coefficients of the cells, each in its slot.
 struct Cells {
-    horizontal: [u64; 1000],
-    vertical: [u64; 1000],
-    storages: [u64; 1000],
+    horizontal: [u64; CELL_PLACES],
+    vertical: [u64; CELL_PLACES],
+    storages: [u64; CELL_PLACES],
 }
 
-fn cells_of<'a>(site: Site, logarithms: &'a [u64; 50], areas: &'a [u64; 50]) -> Cells
-    requires { ⌜ Judged site × Logarithms site (now logarithms) × Areas site (now areas) ⌝ }
+fn cells_of<'a>(
+    site: Site,
+    logarithms: &'a [u64; COLUMN_PLACES],
+    areas: &'a [u64; COLUMN_PLACES],
+) -> Cells
+    requires { ⌜ InLimits site × Logarithms site (now logarithms) × Areas site (now areas) ⌝ }
     ensures { λ r.
         ⌜ (r .horizontal ≡ slots (λ i j. slotOf (isCell site i j) (acrossOf site i j)))
         × (r .vertical ≡ slots (λ i j. slotOf (hasBelow site i j) (downOf site i j)))
         × (r .storages ≡ slots (λ i j. slotOf (isCell site i j) (storageOf site i j))) ⌝ }
 {
-    let mut horizontal: [u64; 1000] = [0; 1000];
-    let mut vertical: [u64; 1000] = [0; 1000];
-    let mut storages: [u64; 1000] = [0; 1000];
+    let mut horizontal: [u64; CELL_PLACES] = [0; CELL_PLACES];
+    let mut vertical: [u64; CELL_PLACES] = [0; CELL_PLACES];
+    let mut storages: [u64; CELL_PLACES] = [0; CELL_PLACES];
     let mut k = 0;
-    while k < 1000 {
-        let i = k / 50;
-        let j = k % 50 + 1;
+    while k < CELL_PLACES {
+        let i = k / COLUMN_PLACES;
+        let j = k % COLUMN_PLACES + 1;
         horizontal[k] = across(site, logarithms, i, j);
         vertical[k] = down(site, areas, i, j);
         storages[k] = storage(site, areas, i, j);
@@ -105,7 +113,7 @@ pub fn coefficients_of(site: Site) -> Coefficients
             record: all_zero(),
         };
     }
-    let losses: [i64; 1000] = [0; 1000];
+    let losses: [i64; CELL_PLACES] = [0; CELL_PLACES];
     Coefficients {
         held: true,
         record: Record {
@@ -115,7 +123,7 @@ pub fn coefficients_of(site: Site) -> Coefficients
             vertical: vertical,
             storages: storages,
             losses: losses,
-            well_storage: well_storage(site.area),
+            well_storage: well_storage(site.water_area),
             well_loss: 0,
             pumped: 0,
             inflow: 0,

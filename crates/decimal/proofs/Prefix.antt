@@ -1,5 +1,4 @@
 -- The digits read so far: one more, and how large their number is.
--- Assumes nothing.
 use mathlib.Core.Path.{_≡_}
 use mathlib.Core.Bool.{true}
 use mathlib.Core.List.{List, [], _∷_}
@@ -9,8 +8,10 @@ use native.Mathlib.Numerals.{add-one}
 use native.Mathlib.Omega.{arith}
 use lib.ListN.{length, getD, take}
 use lib.Seq.{take-suc, length-take-le}
-use Rattle.laws.specs.Every.{every, every-append}
-use Rattle.decimal.specs.Decimal.{zeroByte, isDigit, value, digitLimit}
+use Rattle.laws.specs.Lists.{every}
+use Rattle.laws.specs.Every.{every-append}
+use Rattle.limits.specs.Limits.{digitLimit}
+use Rattle.decimal.specs.Decimal.{zeroByte, isDigit, value}
 use Rattle.decimal.specs.Laws.{value-snoc, value-below}
 
 module _ (s : List ℕ) (i : ℕ) (h : i < length s) where

@@ -1,5 +1,4 @@
 -- What the tests of a text's length and first byte say of reading it.
--- Assumes nothing.
 use mathlib.Core.Path.{_≡_, _∙_}
 use mathlib.Core.Bool.{true, false, cond, or-true}
 use mathlib.Core.List.{List}
@@ -7,10 +6,11 @@ use Prim.Native.Nat.{ℕ, _<_, _≤_}
 use lib.Dec.{leb, eqb}
 use lib.ListN.{length, getD}
 use borrow.Author.Tests.{le-leb, lt-leb}
-use Rattle.laws.specs.Every.{every}
+use Rattle.laws.specs.Lists.{every}
 use Rattle.decimal.specs.declared.Decimal.{Decimal}
 use Rattle.decimal.specs.declared.Decimal.the-variants.{Number, Malformed}
-use Rattle.decimal.specs.Decimal.{zeroByte, isDigit, value, noLeadingZero, digitLimit, numeral, decimalOf}
+use Rattle.limits.specs.Limits.{digitLimit}
+use Rattle.decimal.specs.Decimal.{zeroByte, isDigit, value, noLeadingZero, numeral, decimalOf}
 
 module _ (s : List ℕ) where
   pub empty : length s < 1 → Malformed ≡ decimalOf s

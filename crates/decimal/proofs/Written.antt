@@ -1,11 +1,11 @@
 -- Digits written one after another.
--- Assumes nothing.
 use mathlib.Core.Path.{_≡_, _∙_}
 use mathlib.Core.List.{List, [], _∷_, _++_}
 use Prim.Native.Nat.{ℕ, _+_, _/_, _%_, _^_, _<_, _≤_}
 use native.Mathlib.Omega.{arith}
 use lib.ListN.{length, set, replicate, length-append}
-use Rattle.laws.specs.Padded.{padded, padded-none, padded-more}
+use Rattle.laws.specs.Lists.{padded}
+use Rattle.laws.specs.Padded.{padded-none, padded-more}
 use Rattle.decimal.specs.declared.Digits.{Digits}
 use Rattle.decimal.specs.Decimal.{zeroByte, digitsOf, digitPlaces, writtenOf}
 use Rattle.decimal.specs.Laws.{digits-small, digits-large, few-digits}

@@ -5,8 +5,8 @@ use mathlib.Core.List.{List, [], _∷_, _++_}
 use Prim.Native.Nat.{ℕ, zero, suc, _+_, _-_, _*_, _/_, _%_, _^_}
 use lib.Dec.{leb, ltb, eqb}
 use lib.ListN.{length, getD}
-use Rattle.laws.specs.Every.{every}
-use Rattle.laws.specs.Padded.{padded}
+use Rattle.limits.specs.Limits.{digitLimit}
+use Rattle.laws.specs.Lists.{every, padded}
 use Rattle.decimal.specs.declared.Decimal.{Decimal}
 use Rattle.decimal.specs.declared.Decimal.the-variants.{Number, Malformed}
 use Rattle.decimal.specs.declared.Digits.{Digits}
@@ -27,10 +27,6 @@ value (c ∷ s) = (c - zeroByte) * 10 ^ length s + value s
 -- no leading zero except 0 itself
 unfoldable pub noLeadingZero : List ℕ → Bool
 noLeadingZero s = leb (length s) 1 || not (eqb (getD s 0 0) zeroByte)
-
--- at most 18 digits
-abbrev pub digitLimit : ℕ
-digitLimit = 18
 
 -- a decimal whole number
 unfoldable pub numeral : List ℕ → Bool

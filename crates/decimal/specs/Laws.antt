@@ -1,28 +1,29 @@
 -- Laws of the definitions in Decimal.antt, for proofs; nothing here is to be believed.
 --     digit-from         a digit is at least the byte of 0
 --     value-snoc         one digit more at the end
---     value-below        k digits stand for a number below 10^k; numeral-small: what a decimal whole number is below
+--     value-below        k digits stand for a number below 10^k
 --     number-read        where a text reads as a number; malformed-read: where it does not
 --     digits-small, digits-large   the digits of a number below ten, and of one from ten on
 --     value-digits       the digits of n stand for n
 --     all-digits         they are digits; some-digits: there is one; few-digits: how many there are; no-zero: none leads idly
 --     read-digits        reading them gives n again
--- Assumes nothing.
 use mathlib.Core.Path.{_≡_, refl, sym, ap, _∙_}
-use mathlib.Core.Bool.{Bool, true, false, _&&_, cond, or-true}
+use mathlib.Core.Bool.{Bool, true, false, cond, or-true}
 use mathlib.Core.Logic.{⊎-elim}
 use mathlib.Core.List.{List, [], _∷_, _++_}
 use Prim.Native.Nat.{ℕ, zero, suc, _+_, _-_, _*_, _/_, _%_, _^_, _<_, _≤_}
-use native.Mathlib.Nat.{pow-zero, pow-suc, pow-le-pow-right, mul-le-mul-right}
+use native.Mathlib.Nat.{pow-zero, pow-suc, mul-le-mul-right}
 use native.Mathlib.Omega.{arith}
 use lib.Dec.{leb}
 use lib.ListN.{length, getD, length-append, List·getD-append}
 use borrow.Author.Tests.{lt-ltb, le-ltb, le-leb, leb-true, ne-eqb}
 use Rattle.laws.specs.All.{and-left, and-right}
-use Rattle.laws.specs.Every.{every, every-append}
+use Rattle.laws.specs.Lists.{every}
+use Rattle.laws.specs.Every.{every-append}
 use Rattle.laws.specs.Number.{below-or-not}
 use Rattle.decimal.specs.declared.Decimal.the-variants.{Number, Malformed}
-use Rattle.decimal.specs.Decimal.{zeroByte, isDigit, value, noLeadingZero, digitLimit, numeral, decimalOf, digitsIn, digitsOf}
+use Rattle.limits.specs.Limits.{digitLimit}
+use Rattle.decimal.specs.Decimal.{zeroByte, isDigit, value, noLeadingZero, numeral, decimalOf, digitsIn, digitsOf}
 
 pub digit-from : (c : ℕ) → isDigit c ≡ true → zeroByte ≤ c
 unfolding isDigit
@@ -50,15 +51,6 @@ value-below (c ∷ s) e =
     let d : c - zeroByte ≤ 9 = omega (arith, digit-to c (and-left (isDigit c) (every isDigit s) e)) in
     let rest = value-below s (and-right (isDigit c) (every isDigit s) e) in
     rw (pow-suc 10 (length s)) (omega (arith, mul-le-mul-right (10 ^ length s) d))
-
-pub numeral-small : (s : List ℕ) → numeral s ≡ true → value s < 10 ^ digitLimit
-unfolding numeral
-numeral-small s e =
-    let shape = and-left (leb 1 (length s) && leb (length s) digitLimit && noLeadingZero s) (every isDigit s) e in
-    let sized = and-left (leb 1 (length s) && leb (length s) digitLimit) (noLeadingZero s) shape in
-    let most : length s ≤ digitLimit = leb-true (length s) digitLimit (and-right (leb 1 (length s)) (leb (length s) digitLimit) sized) in
-    let below = value-below s (and-right (leb 1 (length s) && leb (length s) digitLimit && noLeadingZero s) (every isDigit s) e) in
-    omega (arith, below, pow-le-pow-right {n = 10} (omega arith) most)
 
 by-test : (b : Bool) (s : List ℕ) (v : ℕ) → cond b (Number (value s)) Malformed ≡ Number v → (b ≡ true) × (value s ≡ v)
 by-test true s v e = (refl, cc)
@@ -116,7 +108,7 @@ value-one : (n : ℕ) → value ((zeroByte + n) ∷ []) ≡ n
 unfolding value
 value-one n = rw (pow-zero 10) (omega arith)
 
-pub value-digits : (n : ℕ) → value (digitsOf n) ≡ n
+value-digits : (n : ℕ) → value (digitsOf n) ≡ n
 value-digits n = by-tenths (λ m. value (digitsOf m) ≡ m) small large n n (omega arith)
   where
     small : (m : ℕ) → m < 10 → value (digitsOf m) ≡ m
@@ -129,7 +121,7 @@ digit-alone : (n : ℕ) → n < 10 → every isDigit ((zeroByte + n) ∷ []) ≡
 unfolding every
 digit-alone n h = rw (is-digit n h)
 
-pub all-digits : (n : ℕ) → every isDigit (digitsOf n) ≡ true
+all-digits : (n : ℕ) → every isDigit (digitsOf n) ≡ true
 all-digits n = by-tenths (λ m. every isDigit (digitsOf m) ≡ true) small large n n (omega arith)
   where
     small : (m : ℕ) → m < 10 → every isDigit (digitsOf m) ≡ true
@@ -139,7 +131,7 @@ all-digits n = by-tenths (λ m. every isDigit (digitsOf m) ≡ true) small large
     large m h e =
         rw (digits-large m h, every-append isDigit (digitsOf (m / 10)) ((zeroByte + m % 10) ∷ []), e) (digit-alone (m % 10) (omega arith))
 
-pub some-digits : (n : ℕ) → 1 ≤ length (digitsOf n)
+some-digits : (n : ℕ) → 1 ≤ length (digitsOf n)
 some-digits n =
     ⊎-elim (λ lt. rw (digits-small n lt) (omega arith))
     (λ le. rw (digits-large n le, length-append (digitsOf (n / 10)) ((zeroByte + n % 10) ∷ [])) (omega arith))
@@ -169,7 +161,7 @@ first-digit n = by-tenths (λ m. 1 ≤ m → getD (digitsOf m) 0 0 ≡ zeroByte 
         before (omega arith)
         (sym (List·getD-append (digitsOf (m / 10)) ((zeroByte + m % 10) ∷ []) 0 0 (some-digits (m / 10))) ∙ rw (digits-large m h) at e)
 
-pub no-zero : (n : ℕ) → noLeadingZero (digitsOf n) ≡ true
+no-zero : (n : ℕ) → noLeadingZero (digitsOf n) ≡ true
 unfolding noLeadingZero
 no-zero n =
     ⊎-elim (λ lt. rw (digits-small n lt))

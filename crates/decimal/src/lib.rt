@@ -1,16 +1,15 @@
 // Decimal whole numbers: digits to number and number to digits.
+use limits::DIGIT_LIMIT;
 ghost use mathlib.Core.Path.{_≡_};
 ghost use mathlib.Core.Bool.{true, cond};
 ghost use Prim.Native.Nat.{_+_, _-_, _*_, _^_, _≤_, _<_};
 ghost use lib.ListN.{length, set};
-ghost use Rattle.laws.specs.Every.{every};
-ghost use Rattle.decimal.specs.Decimal.{zeroByte, isDigit, value, digitLimit, decimalOf, digitPlaces, writtenOf};
+ghost use Rattle.laws.specs.Lists.{every};
+ghost use Rattle.limits.specs.Limits.{digitLimit};
+ghost use Rattle.decimal.specs.Decimal.{zeroByte, isDigit, value, decimalOf, digitPlaces, writtenOf};
 
 // The byte of the digit 0.
 const ZERO: u8 = b'0';
-
-// The most digits of a number in a text.
-const DIGIT_LIMIT: usize = 18;
 
 // The most digits of a word.
 const DIGIT_PLACES: usize = 20;

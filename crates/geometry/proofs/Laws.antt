@@ -1,8 +1,8 @@
 -- The terms of a logarithm's series, and how large the numbers of the rules are.
--- Assumes nothing.
 use mathlib.Core.Path.{_≡_, sym, ap, _∙_}
 use mathlib.Core.Bool.{or-true}
 use lib.Dec.{eqb}
+use Rattle.limits.specs.Limits.{midsectionFactor}
 use Rattle.words.specs.Fitted.{fitted}
 use Rattle.words.specs.Laws.{fitted-word}
 use Rattle.words.specs.declared.Quotient.the-variants.{Word}
@@ -35,7 +35,7 @@ unfolding terms
 first-term n w z = omega (arith, div-one z)
 
 -- z is at most a half of 2^30
-pub ratio-small : (p q : ℕ) → q < p → p ≤ 3 * q → ratio p q ≤ 2 ^ 29
+pub ratio-small : (p q : ℕ) → q < p → p ≤ midsectionFactor * q → ratio p q ≤ 2 ^ 29
 unfolding ratio
 ratio-small p q h r = div-le-of-le-mul (p + q) (omega arith)
 

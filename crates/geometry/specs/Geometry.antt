@@ -1,6 +1,5 @@
 -- Geometry to coefficients (document 01, the section of that name). All divisions round down.
 -- Lengths are mm, areas mm², conductivities nm/s, conductances C 10^-12 m²/s, storages S nl per m of drawdown.
--- Assumes nothing.
 use mathlib.Core.Bool.{cond, _||_}
 use Prim.Native.Nat.{ℕ, zero, suc, _+_, _*_, _-_, _/_, _^_}
 use lib.Dec.{eqb}
@@ -14,7 +13,7 @@ terms (suc n) w k t = t / (2 * k + 1) + terms n w (suc k) (t * w / 2 ^ 30)
 unfoldable pub ratio : ℕ → ℕ → ℕ
 ratio p q = (p - q) * 2 ^ 30 / (p + q)
 
--- Λ(p, q), which stands for ln(p/q) × 2^30, for q < p ≤ 3q: twice the sum of its terms 0 to 15
+-- Λ(p, q), which stands for ln(p/q) × 2^30, for q < p as far apart as rule 4 lets them be: twice the sum of its terms 0 to 15
 unfoldable pub logarithm : ℕ → ℕ → ℕ
 logarithm p q = 2 * terms 16 (ratio p q * ratio p q / 2 ^ 30) 0 (ratio p q)
 

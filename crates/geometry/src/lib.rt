@@ -4,6 +4,7 @@ use words::divide::quotient;
 use words::divide::quotient_word;
 ghost use mathlib.Core.Path.{_≡_};
 ghost use Prim.Native.Nat.{_+_, _*_, _<_, _≤_, _^_};
+ghost use Rattle.limits.specs.Limits.{midsectionFactor};
 ghost use Rattle.words.specs.Fitted.{fitted};
 ghost use Rattle.geometry.specs.Geometry.{terms, logarithm, area, horizontal, vertical, unconfinedStorage, confinedStorage, wellStorage};
 
@@ -25,7 +26,7 @@ fn series(z: u64, w: u64) -> u64
 
 // Λ(p, q). It is above 0, so that it divides.
 pub fn logarithm(p: u64, q: u64) -> u64
-    requires { ⌜ (q < p) × (p ≤ 3 * q) × (p ≤ 4000000) ⌝ }
+    requires { ⌜ (q < p) × (p ≤ midsectionFactor * q) × (p ≤ 4000000) ⌝ }
     ensures { λ r. ⌜ (r ≡ logarithm p q) × (0 < r) ⌝ }
 {
     let z = (p - q) * 1073741824 / (p + q);

@@ -1,5 +1,4 @@
 -- Whole numbers made floats, and the floats that the code writes as literals.
--- Assumes nothing.
 use mathlib.Core.Path.{_≡_, refl}
 use mathlib.Core.Bool.{true, false}
 use Prim.Native.Nat.{ℕ, zero, suc, _/_, _≤_, _^_}

@@ -1,6 +1,5 @@
 -- The formulas of head loss on numbers (document 01, 'Readings', last paragraph), in binary64: each operation is rounded once, in the order written.
 -- Lengths are mm, areas mm², water nl, Δt µs, flows l/s, velocities m/s, head losses m.
--- Assumes nothing.
 use mathlib.Core.Bool.{true, false, cond}
 use Prim.Native.Nat.{ℕ, zero, suc, _*_}
 use lib.Ieee.{Float, binary64, add, sub, mul, div, neg, lt, ofInt}

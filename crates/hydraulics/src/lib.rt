@@ -3,7 +3,7 @@
 ghost use mathlib.Core.Path.{_≡_};
 ghost use Prim.Native.Nat.{_^_, _≤_};
 ghost use lib.IntN.{pos, negℤ, natAbs};
-ghost use Rattle.network.specs.Limits.{lengthLimit, totalLimit};
+ghost use Rattle.limits.specs.Limits.{lengthLimit, totalLimit};
 ghost use Rattle.hydraulics.specs.Hydraulics.{float, Exactly, absolute, millionths, inflowOf, wallVelocity, lawOf, screenLoss, velocity, pipeLoss};
 
 // The screen law: none, linear c1, or linear and square c1, c2.

@@ -1,18 +1,13 @@
 -- A test of every number below n.
---     allBelow n p       whether p holds at each number below n
 --     all-more           one turn more; all-fails: one that fails; all-at: what the whole says of one
 --     and-left           where two tests hold, the first does; and-right: the second does
--- Assumes nothing.
 use mathlib.Core.Path.{_≡_, refl, sym, subst}
 use mathlib.Core.Bool.{Bool, true, false, _&&_}
 use mathlib.Core.Logic.{⊎-elim}
 use Prim.Native.Nat.{ℕ, zero, suc, _+_, _<_}
 use native.Mathlib.Nat.{eq-or-lt-of-le, le-of-suc-le-suc, not-suc-le-zero}
 use native.Mathlib.Numerals.{add-one}
-
-unfoldable pub allBelow : ℕ → (ℕ → Bool) → Bool
-allBelow zero p = true
-allBelow (suc n) p = allBelow n p && p n
+use Rattle.laws.specs.Lists.{allBelow}
 
 pub all-none : (p : ℕ → Bool) → allBelow 0 p ≡ true
 unfolding allBelow

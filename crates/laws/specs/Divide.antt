@@ -6,7 +6,6 @@
 --     shifted            a number of two digits and its divisor, shifted left alike
 --     Step               a step of long division by a divisor of full width, whose digit is estimated by the divisor's upper digit
 --     exact, less        what the digit is: the estimate, or so much less as makes up what is short; two-enough: 2 at most
--- Assumes nothing.
 use mathlib.Core.Path.{_≡_, sym, ap, _∙_}
 use Prim.Native.Nat.{ℕ, suc, _+_, _-_, _*_, _/_, _%_, _≤_, _<_}
 use native.Mathlib.Nat.{add-mul, mul-add, mul-assoc, mul-comm, mul-left-comm, add-assoc, add-comm, add-left-comm, mul-le-mul-left, mul-le-mul-right, lt-of-mul-lt-mul-right, div-add-mod', div-lt-iff-lt-mul, le-div-iff-mul-le, mul-div-mul-right, mod-lt, suc-mul, le-of-suc-le-suc, sub-add-cancel}

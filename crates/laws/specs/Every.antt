@@ -1,8 +1,6 @@
 -- A test of every element of a list.
---     every p l          whether p holds of each element
 --     every-append       of two lists put together
 --     every-at           what the whole says of one; every-fails: one that fails
--- Assumes nothing.
 use mathlib.Core.Path.{_≡_, refl, sym, ap, _∙_}
 use mathlib.Core.Bool.{Bool, true, false, _&&_, and-assoc, and-false}
 use mathlib.Core.List.{List, [], _∷_, _++_}
@@ -10,10 +8,7 @@ use Prim.Native.Nat.{ℕ, zero, suc, _<_}
 use native.Mathlib.Nat.{le-of-suc-le-suc, not-suc-le-zero}
 use lib.ListN.{length, getD}
 use Rattle.laws.specs.All.{and-left, and-right}
-
-unfoldable pub every : {A : Type 0} → (A → Bool) → List A → Bool
-every p [] = true
-every p (a ∷ l) = p a && every p l
+use Rattle.laws.specs.Lists.{every}
 
 module _ {A : Type 0} (p : A → Bool) where
   pub every-append : (l m : List A) → every p (l ++ m) ≡ (every p l && every p m)

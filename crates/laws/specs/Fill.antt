@@ -6,7 +6,6 @@
 --     fill-ext           functions that agree below n fill alike
 --     fill-range         a list filled whole is f of each place in turn
 --     fill-every         what holds of each element that was there and of each f k holds of each element
--- Assumes nothing.
 use mathlib.Core.Path.{_≡_, refl, sym, ap, subst, _∙_}
 use mathlib.Core.Logic.{⊎-elim}
 use mathlib.Core.List.{List, [], _∷_, map}
@@ -16,7 +15,8 @@ use native.Mathlib.Numerals.{add-one}
 use native.Mathlib.Omega.{arith}
 use lib.ListN.{length, getD, set, replicate, length-set, length-map, length-replicate}
 use lib.Seq.{getD-set-same, getD-set-other, ext-getD}
-use Rattle.laws.specs.Sums.{range, getD-map-range, length-range}
+use Rattle.laws.specs.Lists.{range}
+use Rattle.laws.specs.Sums.{getD-map-range, length-range}
 
 unfoldable pub fill : {A : Type 0} → ℕ → (ℕ → A) → List A → List A
 fill zero f l = l

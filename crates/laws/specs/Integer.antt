@@ -3,7 +3,6 @@
 --     diff-..               sums and opposites of differences
 --     natural               a number that is not below 0 is its size
 --     odd-..                products and quotients rounded toward zero change sign with a factor
--- Assumes nothing.
 use mathlib.Core.Path.{_≡_, refl, sym, ap, _∙_}
 use mathlib.Core.Bool.{false}
 use Prim.Native.Nat.{ℕ, zero, suc, _+_, _*_, _-_, _/_, _≤_, zero-le}

@@ -3,6 +3,7 @@ pub mod Divide
 pub mod Every
 pub mod Fill
 pub mod Integer
+pub mod Lists
 pub mod Number
 pub mod Padded
 pub mod Pointwise
@@ -13,3 +14,4 @@ pub mod Rows
 pub mod Signed
 pub mod Span
 pub mod Sums
+pub mod Words

@@ -1,22 +1,18 @@
 -- A list as an array of n elements holds it.
---     padded n d l       the first n elements of l, with d where l has fewer
 --     padded-none        of the empty list; padded-more: of one element more, as a store after the last makes it
 --     length-padded      it has n elements
 --     getD-padded        what stands at a place below n
--- Assumes nothing.
 use mathlib.Core.Path.{_≡_, refl, sym, _∙_}
 use mathlib.Core.Logic.{⊎-elim}
 use mathlib.Core.List.{List, [], _∷_, _++_}
 use Prim.Native.Nat.{ℕ, zero, suc, _<_, _≤_}
 use native.Mathlib.Decide.{ℕ-discrete}
 use native.Mathlib.Omega.{arith}
-use lib.ListN.{length, getD, take, set, replicate, length-append, length-set, length-replicate, List·getD-append, List·getD-eq-default}
+use lib.ListN.{length, getD, set, replicate, length-append, length-set, length-replicate, List·getD-append, List·getD-eq-default}
 use lib.Seq.{take-all, length-take-le, getD-take, getD-set-same, getD-set-other, getD-append-seam, ext-getD}
 use Rattle.laws.specs.Fill.{getD-same}
 use Rattle.laws.specs.Number.{below-or-not}
-
-unfoldable pub padded : {A : Type 0} → ℕ → A → List A → List A
-padded n d l = take n (l ++ replicate n d)
+use Rattle.laws.specs.Lists.{padded}
 
 module _ {A : Type 0} (n : ℕ) (d : A) where
   pub padded-none : padded n d [] ≡ replicate n d

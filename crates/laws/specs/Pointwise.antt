@@ -1,7 +1,6 @@
 -- What is known of a whole list from what stands at each of its places.
 --     fill-padded     zeros (or another value) filled from the front with what stands in l are l as an array holds it
 --     every-from      a test that holds at each place holds of every element
--- Assumes nothing.
 use mathlib.Core.Path.{_≡_, refl, sym, _∙_}
 use mathlib.Core.Bool.{Bool, true}
 use mathlib.Core.Logic.{⊎-elim}
@@ -10,10 +9,10 @@ use Prim.Native.Nat.{ℕ, suc, _<_}
 use native.Mathlib.Omega.{arith}
 use lib.ListN.{length, getD, replicate, length-replicate, getD-replicate, List·getD-eq-default}
 use lib.Seq.{ext-getD}
-use Rattle.laws.specs.Every.{every}
+use Rattle.laws.specs.Lists.{every, padded}
 use Rattle.laws.specs.Fill.{fill, length-fill, getD-fill, getD-fill-rest}
 use Rattle.laws.specs.Number.{below-or-not}
-use Rattle.laws.specs.Padded.{padded, length-padded, getD-padded}
+use Rattle.laws.specs.Padded.{length-padded, getD-padded}
 
 module _ {A : Type 0} (d : A) (f : ℕ → A) (l : List A) (same : (k : ℕ) → k < length l → f k ≡ getD l k d) where
   pub fill-padded : (n m : ℕ) → length l ≡ n → fill n f (replicate m d) ≡ padded m d l

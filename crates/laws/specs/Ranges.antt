@@ -1,14 +1,13 @@
 -- Lists made from the numbers of a range.
 --     map-range-ext        functions that agree on the range make the same list; flatMap-range-ext: the same of lists put together
 --     map-range-same       a list of n equal elements; flatMap-range-same: p such lists put together
--- Assumes nothing.
 use mathlib.Core.Path.{_≡_, refl, sym, ap, ap₂, _∙_}
 use mathlib.Core.List.{List, _∷_, _++_, map, flatMap}
 use Prim.Native.Nat.{ℕ, zero, suc, _+_, _*_, _<_, _≤_}
 use native.Mathlib.Nat.{suc-mul, zero-mul, add-comm}
 use native.Mathlib.Omega.{arith}
 use lib.ListN.{replicate, replicate-append-replicate}
-use Rattle.laws.specs.Sums.{range}
+use Rattle.laws.specs.Lists.{range}
 
 module _ {A : Type 0} where
   pub map-range-ext : (f g : ℕ → A) (k n : ℕ) → ((i : ℕ) → k ≤ i → i < k + n → f i ≡ g i) → map f (range k n) ≡ map g (range k n)

@@ -1,5 +1,4 @@
 -- The first refusal of a list of tests, each with its number, or 0.
---     first ts        the number of the first test that holds
 --     First ts n      the same as a relation: a proof walks the tests that failed (skip) to the one that held (hit) or to the end (none)
 --     first-is        the relation gives the number
 --     passed          where no test holds, the first does not, and none of the others does
@@ -7,7 +6,6 @@
 --     first-before    tests a and then b: where a test of a holds, it is the first; first-after: else it is the first of b
 --     first-none      where none of all holds, none of a does
 --     first-most      a bound on the numbers of the tests is one on the first that holds
--- Assumes nothing.
 use mathlib.Core.Path.{_≡_, refl, sym, _∙_}
 use mathlib.Core.Bool.{Bool, true, false, cond}
 use mathlib.Core.List.{List, [], _∷_, _++_}
@@ -17,11 +15,8 @@ use native.Mathlib.Omega.{arith}
 use lib.Dec.{leb, ltb}
 use borrow.Author.Tests.{ltb-true, leb-true}
 use Rattle.laws.specs.All.{and-left, and-right}
-use Rattle.laws.specs.Every.{every, every-append}
-
-unfoldable pub first : List (Bool × ℕ) → ℕ
-first [] = 0
-first (t ∷ ts) = cond (t .0) (t .1) (first ts)
+use Rattle.laws.specs.Lists.{every, first}
+use Rattle.laws.specs.Every.{every-append}
 
 pub data First : List (Bool × ℕ) → ℕ → Type 0 where
   none : First [] 0

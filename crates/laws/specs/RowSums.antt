@@ -3,14 +3,14 @@
 --     sum-more           one number more at the end
 --     sum-rows           row by row; sum-cut: where the numbers from n on count 0
 --     sum-places         of a list, by its places
--- Assumes nothing.
 use mathlib.Core.Path.{_≡_, refl, sym, ap, ap₂, _∙_}
 use mathlib.Core.List.{List, [], _∷_}
 use Prim.Native.Nat.{ℕ, zero, suc, _+_, _*_, _-_, _≤_, _<_}
 use native.Mathlib.Nat.{zero-add, add-zero, zero-mul, suc-mul}
 use native.Mathlib.Omega.{arith}
 use lib.ListN.{length, getD}
-use Rattle.laws.specs.Sums.{sumℕ, range, sumℕ-zero, range-mem}
+use Rattle.laws.specs.Lists.{sumℕ, range}
+use Rattle.laws.specs.Sums.{sumℕ-zero, range-mem}
 
 module _ (g : ℕ → ℕ) where
   pub sum-parts : (k a b : ℕ) → sumℕ (range k (a + b)) g ≡ sumℕ (range k a) g + sumℕ (range (k + a) b) g

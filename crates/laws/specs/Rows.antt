@@ -5,16 +5,15 @@
 --     all-from            a test that holds at each number below n; all-ext: tests that agree there
 --     every-map           of the elements of a list taken through a function; every-flatMap: of the lists of its elements, put together
 --     range-at            what a test of a range says of one of its numbers; range-from: a test that holds at each of them
--- Assumes nothing.
 use mathlib.Core.Path.{_≡_, refl, sym, ap, ap₂, _∙_}
 use mathlib.Core.Bool.{Bool, true, false, _&&_}
 use mathlib.Core.List.{List, [], _∷_, map, flatMap}
 use Prim.Native.Nat.{ℕ, zero, suc, _+_, _<_, _≤_}
 use native.Mathlib.Decide.{ℕ-discrete}
 use native.Mathlib.Omega.{arith}
-use Rattle.laws.specs.All.{allBelow, and-left, and-right}
-use Rattle.laws.specs.Every.{every, every-append}
-use Rattle.laws.specs.Sums.{range}
+use Rattle.laws.specs.Lists.{allBelow, every, range}
+use Rattle.laws.specs.All.{and-left, and-right}
+use Rattle.laws.specs.Every.{every-append}
 
 pub same-test : (a b : Bool) → (a ≡ true → b ≡ true) → (b ≡ true → a ≡ true) → a ≡ b
 same-test true b f g = sym (f refl)

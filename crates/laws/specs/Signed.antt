@@ -4,7 +4,6 @@
 --     abs-neg, abs-add   the size of an opposite and of a sum
 --     room-fits       what numbers can be added to within a limit below 2^63 fits; room-up: a larger limit; room-sum: the sum is within it
 --     Adding          numbers that a loop adds one after another; adding-start, adding-more, adding-done: its invariant
--- Assumes nothing.
 use mathlib.Core.Path.{_≡_, refl, sym, ap, _∙_}
 use mathlib.Core.Bool.{Bool, true, false, cond}
 use mathlib.Core.List.{List, [], _∷_, map}
@@ -19,7 +18,8 @@ use borrow.Author.Tests.{ltb-true}
 use mir.Syntax.{w64}
 use mir.Val.{SFits, toZ, ofZ}
 use mir.Facts.{toZ-ofZ, toZ-pos}
-use Rattle.laws.specs.Sums.{sumℕ, sumℤ, range, Room, room-more}
+use Rattle.laws.specs.Lists.{sumℕ, sumℤ, range}
+use Rattle.laws.specs.Sums.{Room, room-more}
 
 pub back : (z : ℤ) → mag z < 2 ^ 63 → toZ w64 (ofZ w64 z) ≡ z
 back z h = toZ-ofZ (record { sfits = h })

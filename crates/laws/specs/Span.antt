@@ -5,7 +5,6 @@
 --     spans-more         one span more
 --     spans-fill         where the places between hold already what f gives, the spans fill the list
 --     fill-alike         lists that are alike from n on fill alike
--- Assumes nothing.
 use mathlib.Core.Path.{_≡_, refl, sym, ap, _∙_}
 use mathlib.Core.List.{List}
 use Prim.Native.Nat.{ℕ, zero, suc, _+_, _*_, _%_, _<_, _≤_}
@@ -34,13 +33,13 @@ module _ {A : Type 0} (f : ℕ → A) (l : List A) where
   unfolding span
   span-more s n e q = rw (add-one n, e, q)
 
-  pub length-span : (s n : ℕ) → length (span s n f l) ≡ length l
+  length-span : (s n : ℕ) → length (span s n f l) ≡ length l
   unfolding span
   length-span s zero = refl
   length-span s (suc n) = length-set (span s n f l) (s + n) (f (s + n)) ∙ length-span s n
 
   -- a span after what was filled
-  pub span-fill : (s n : ℕ) → span s n f (fill s f l) ≡ fill (s + n) f l
+  span-fill : (s n : ℕ) → span s n f (fill s f l) ≡ fill (s + n) f l
   unfolding span fill
   span-fill s zero = let e : s ≡ s + 0 = omega arith in ap (λ m. fill m f l) e
   span-fill s (suc n) =
@@ -67,7 +66,7 @@ fill-alike f d l m n long h =
 
 module _ {A : Type 0} (f : ℕ → A) (d : A) (l : List A) where
   -- places from n on that hold what f gives need no store
-  pub fill-idle : (n m : ℕ) → n ≤ m → m ≤ length l → ((k : ℕ) → n ≤ k → k < m → f k ≡ getD l k d) → fill n f l ≡ fill m f l
+  fill-idle : (n m : ℕ) → n ≤ m → m ≤ length l → ((k : ℕ) → n ≤ k → k < m → f k ≡ getD l k d) → fill n f l ≡ fill m f l
   fill-idle n m le room idle =
       ext-getD d (fill n f l) (fill m f l) (length-fill f l n ∙ sym (length-fill f l m))
       (λ k u. elim (decLt k n) [

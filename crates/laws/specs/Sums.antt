@@ -1,11 +1,6 @@
 -- Sums of a function over a list, of natural numbers and of integers, and a test of its elements.
---     sumℕ l g, sumℤ l g     the sum of g over l
---     ifℕ t x, ifℤ t x       x where the test holds, else 0
---     range k n              the n numbers from k on
---     some l t               whether t holds of some element of l
 --     Room limit v ts        ts can be added to v one by one, each sum between 0 and the limit
 -- A law that asks something of the terms asks it of the elements of l only.
--- Assumes nothing.
 use mathlib.Core.Path.{_≡_, refl, sym, ap, ap₂, subst, _∙_}
 use mathlib.Core.Bool.{Bool, true, false, _||_, true≢false}
 use mathlib.Core.Logic.{⊎-elim}
@@ -21,30 +16,7 @@ use lib.Signed.{_≤ℤ_, ≤ℤ-refl}
 use lib.ListN.{length, getD}
 use borrow.Author.Tests.{eq-eqb, ne-eqb}
 use Rattle.laws.specs.Integer.{+ℤ-swap, +ℤ-natural, diff-add, diff-neg, add-diff, plus, minus, parts, natural, pos-≤ℤ}
-
-unfoldable pub ifℕ : Bool → ℕ → ℕ
-ifℕ true x = x
-ifℕ false x = 0
-
-unfoldable pub ifℤ : Bool → ℤ → ℤ
-ifℤ true x = x
-ifℤ false x = pos 0
-
-unfoldable pub sumℕ : {A : Type 0} → List A → (A → ℕ) → ℕ
-sumℕ [] g = 0
-sumℕ (a ∷ l) g = g a + sumℕ l g
-
-unfoldable pub sumℤ : {A : Type 0} → List A → (A → ℤ) → ℤ
-sumℤ [] g = pos 0
-sumℤ (a ∷ l) g = g a +ℤ sumℤ l g
-
-unfoldable pub range : ℕ → ℕ → List ℕ
-range k zero = []
-range k (suc n) = k ∷ range (suc k) n
-
-unfoldable pub some : {A : Type 0} → List A → (A → Bool) → Bool
-some [] t = false
-some (a ∷ l) t = t a || some l t
+use Rattle.laws.specs.Lists.{ifℕ, ifℤ, sumℕ, sumℤ, range, some}
 
 -- ---- tests
 
@@ -52,6 +24,10 @@ module _ (t : Bool) where
   pub ifℕ-zero : ifℕ t 0 ≡ 0
   unfolding ifℕ
   ifℕ-zero = elim t [ true ↦ refl | false ↦ refl ]
+
+  pub ifℕ-le : (x : ℕ) → ifℕ t x ≤ x
+  unfolding ifℕ
+  ifℕ-le x = elim t [ true ↦ le-refl x | false ↦ zero-le ]
 
   pub ifℕ-add : (x y : ℕ) → ifℕ t (x + y) ≡ ifℕ t x + ifℕ t y
   unfolding ifℕ
@@ -83,6 +59,12 @@ module _ (t : Bool) where
 
   pub ifℤ-less : (z : ℤ) (h k : ℕ) → z ≡ pos h -ℤ pos k → negℤ (ifℤ t z) ≡ pos (ifℕ t k) -ℤ pos (ifℕ t h)
   ifℤ-less z h k e = ap negℤ (ifℤ-diff z h k e) ∙ diff-neg (ifℕ t h) (ifℕ t k)
+
+-- ---- lists made from the elements of another
+
+pub map-ext : {A B : Type 0} (l : List A) {f g : A → B} → ((a : A) → List·Memᴰ a l → f a ≡ g a) → map f l ≡ map g l
+map-ext [] h = refl
+map-ext (a ∷ l) h = ap₂ _∷_ (h a (List·Memᴰ·head refl)) (map-ext l (λ b m. h b (List·Memᴰ·tail m)))
 
 -- ---- sums of natural numbers
 

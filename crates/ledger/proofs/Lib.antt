@@ -1,3 +1,4 @@
-pub mod Accepted
+pub mod AcceptedSteps
 pub mod Records
 pub mod Readings
+pub mod Told

@@ -1,19 +1,18 @@
 -- The calls of a run and what they answer (document 01, 'The ledger of a run'): step and every reading, with any arguments beside the record.
 -- What each answers is the definition in its own contract.
--- Assumes nothing.
 use mathlib.Core.Path.{_≡_}
 use mathlib.Core.List.{List, [], _∷_}
 use Prim.Native.Nat.{ℕ}
 use Rattle.record.specs.declared.Record.{Record}
 use Rattle.record.specs.declared.Answer.{Answer}
-use Rattle.stepping.specs.Step.{stepOf}
+use Rattle.step_rules.specs.Step.{stepOf}
 use Rattle.readings.specs.declared.Place.{Place}
 use Rattle.readings.specs.declared.Amount.{Amount}
 use Rattle.readings.specs.declared.Balance.{Balance}
 use Rattle.readings.specs.declared.Count.{Count}
 use Rattle.readings.specs.declared.Sameness.{Sameness}
-use Rattle.head_loss.specs.declared.Loss.{Loss}
-use Rattle.head_loss.specs.HeadLoss.{headLossOf}
+use Rattle.read_head_loss.specs.declared.Loss.{Loss}
+use Rattle.read_head_loss.specs.HeadLoss.{headLossOf}
 use Rattle.readings.specs.Readings.{drawdownOf, budgetOf, lossOf, flowOf, Deep, sameOf}
 
 -- a reading, with its arguments beside the record
@@ -37,7 +36,7 @@ pub data Reply : Type 0 where
   amount : Amount → Reply
   balance : Balance → Reply
   listed : Count → List ℕ → Reply
-  sameness : Sameness → Reply
+  compared : Sameness → Reply
   losses : Loss → Reply
 
 -- what a call on the record r gives back
@@ -48,8 +47,8 @@ Gives r (read budget) reply = reply ≡ balance (budgetOf r)
 Gives r (read (loss bytes)) reply = reply ≡ amount (lossOf r bytes)
 Gives r (read (flow a b dt)) reply = reply ≡ amount (flowOf r a b dt)
 Gives r (read (deep D old)) reply = (n : Count) × (new : List ℕ) × (reply ≡ listed n new) × Deep r D old n new
-Gives r (read (same q)) reply = reply ≡ sameness (sameOf r q)
-Gives r (read (sameAs q)) reply = reply ≡ sameness (sameOf q r)
+Gives r (read (same q)) reply = reply ≡ compared (sameOf r q)
+Gives r (read (sameAs q)) reply = reply ≡ compared (sameOf q r)
 Gives r (read (headLoss layer dt)) reply = reply ≡ losses (headLossOf r layer dt)
 
 -- the record that it leaves: a step the one that it returns, a reading the one that it was handed

@@ -2,11 +2,10 @@
 -- said of every list of calls. Laws only, nothing to believe.
 --     answered     a call on a record gives something back
 --     replied      so do the calls of a list, one after another
--- Assumes nothing.
 use mathlib.Core.Path.{refl}
 use mathlib.Core.List.{List, [], _∷_}
 use Rattle.record.specs.declared.Record.{Record}
-use Rattle.deep_cells.specs.Laws.{deep-list}
+use Rattle.read_deep_cells.specs.Laws.{deep-list}
 use Rattle.ledger.specs.Calls.{drawdown, budget, loss, flow, deep, same, sameAs, headLoss, Call, step, read, Reply, listed, Gives, left, Run, none, then}
 
 answered : (r : Record) (c : Call) → (reply : Reply) × Gives r c reply

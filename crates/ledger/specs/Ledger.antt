@@ -1,13 +1,12 @@
 -- The ledger of a run (document 01, 'The ledger of a run'): kept from the scenario text and the calls' arguments, and from no record.
 -- Units: V, totals and water nl; D µm; times µs.
--- Assumes nothing.
 use mathlib.Core.Bool.{cond, _&&_, Bool}
 use mathlib.Core.List.{List, [], _∷_}
 use Prim.Native.Nat.{ℕ, _*_}
 use lib.IntN.{ℤ}
 use lib.Dec.{eqb}
 use lib.Signed.{leZ}
-use Rattle.laws.specs.Sums.{sumℕ, sumℤ}
+use Rattle.laws.specs.Lists.{sumℕ, sumℤ}
 use Rattle.network.specs.Network.{Network, State, atRest, isPlace, drawdown, flow, inward, moved, refusal}
 use Rattle.network.specs.Grid.{Grid, networkOf}
 use Rattle.coefficients.specs.Coefficients.{scenarioGrid}

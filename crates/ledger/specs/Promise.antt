@@ -1,6 +1,5 @@
 -- Demand 3: what holds before the first call of a run and after each. A list of calls cut short is a list of calls, and so is the empty one, so a
--- statement about every list says it of every moment of a run: what a reading within a list gives is what it gives at the end of the list before it.
--- Assumes nothing.
+-- statement about every list says it of every moment of a run.
 use mathlib.Core.Path.{_≡_}
 use mathlib.Core.Bool.{true}
 use mathlib.Core.List.{List, [], _∷_}
@@ -9,20 +8,22 @@ use lib.Dec.{ltb}
 use lib.IntN.{pos, _-ℤ_}
 use lib.ListN.{length}
 use lib.Signed.{_≤ℤ_}
-use Rattle.laws.specs.Sums.{ifℤ}
+use Rattle.laws.specs.Lists.{ifℤ}
 use Rattle.network.specs.Network.{atRest, lossAt, drawdown, lossIn}
 use Rattle.network.specs.Grid.{placeCount}
 use Rattle.record.specs.declared.Record.{Record}
 use Rattle.record.specs.declared.Outcome.{Outcome}
 use Rattle.record.specs.Record.{stateOf}
 use Rattle.validity.specs.Validity.{valid}
+use Rattle.scenario.specs.Scenario.{scenarioOf}
 use Rattle.readings.specs.declared.Place.{Place}
 use Rattle.readings.specs.declared.Place.the-variants.{Cell}
 use Rattle.readings.specs.declared.Amount.{Amount}
 use Rattle.readings.specs.declared.Balance.{Balance}
 use Rattle.readings.specs.Readings.{isNamed, numberOf, drawdownOf, budgetOf, lossOf}
-use Rattle.ledger.specs.Calls.{Call, Reply, stepped, amount, balance, listed, sameness, losses}
+use Rattle.ledger.specs.Calls.{Call, Reply, stepped, amount, balance, listed, compared, losses}
 use Rattle.ledger.specs.Ledger.{gridFrom, networkFrom, ledgerOf, outcomesFrom, acceptedOf, pumpedBy, inSet, netInto, greatest}
+use Rattle.ledger.specs.Told.{Told}
 
 -- the outcomes among the replies of a run, one for each step call
 unfoldable pub outcomesIn : List Reply → List Outcome
@@ -31,11 +32,13 @@ outcomesIn (stepped answer ∷ rs) = answer .outcome ∷ outcomesIn rs
 outcomesIn (amount a ∷ rs) = outcomesIn rs
 outcomesIn (balance b ∷ rs) = outcomesIn rs
 outcomesIn (listed n l ∷ rs) = outcomesIn rs
-outcomesIn (sameness s ∷ rs) = outcomesIn rs
+outcomesIn (compared s ∷ rs) = outcomesIn rs
 outcomesIn (losses l ∷ rs) = outcomesIn rs
 
 -- what holds of the replies of a list of calls from the record that start gives for a text, and of the record r that the last of them left
 pub record Holds (text : List ℕ) (calls : List Call) (replies : List Reply) (r : Record) : Type 0 where
+  -- what each call of the list gives back, a reading too, is what the ledger has for it
+  pub told : Told (scenarioOf text) (atRest (networkFrom text)) calls replies
   -- a step call is accepted exactly when the ledger accepts it, and a refused one has the ledger's number
   pub outcomes : outcomesIn replies ≡ outcomesFrom (networkFrom text) (atRest (networkFrom text)) calls
   -- the record's losses, totals and time are the ledger's

@@ -2,7 +2,6 @@
 -- Laws only, nothing to believe.
 --     refused-keeps     a refused step leaves the record, and so do more of the same (still)
 --     repeated          the record that `repeat` leaves
--- Assumes nothing.
 use mathlib.Core.Path.{_≡_, refl, sym, ap, _∙_}
 use mathlib.Core.Bool.{Bool, true, false, cond}
 use Prim.Native.Nat.{ℕ, zero, suc}
@@ -14,10 +13,11 @@ use Rattle.record.specs.declared.Record.{Record}
 use Rattle.record.specs.declared.Outcome.{Outcome}
 use Rattle.record.specs.Record.{gridOf, stateOf, outcomeOf, answerOf}
 use Rattle.validity.specs.Validity.{valid}
-use Rattle.stepping.specs.Step.{withState, stepRefusal, stepOf}
-use Rattle.stepping.proofs.Laws.{refused-14}
-use Rattle.repeat.specs.declared.Repeated.{Repeated}
-use Rattle.repeat.specs.Repeat.{onward, stepsOf, repeatOf}
+use Rattle.step_rules.specs.Step.{withState, stepRefusal, stepOf}
+use Rattle.step_rules.proofs.Laws.{refused-14}
+use Rattle.record.specs.declared.Repeated.{Repeated}
+use Rattle.step_rules.specs.Steps.{onward, stepsOf}
+use Rattle.step.specs.Repeat.{repeatOf}
 use Rattle.ledger.specs.Calls.{step, left, leftByAll}
 
 module _ (rate dt : ℕ) where

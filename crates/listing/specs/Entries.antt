@@ -3,7 +3,6 @@
 --     entry-is         entry n of an accepted text; entry-past: after the last one
 --     entries-most     at most 500; repeats-most: of at most 10^6 steps each
 --     past-most        so no text has an entry of a higher number
--- Assumes nothing.
 use mathlib.Core.Path.{_≡_, refl, sym, ap, _∙_}
 use mathlib.Core.Bool.{true, not, _&&_, _||_}
 use mathlib.Core.List.{List, [], _++_}
@@ -13,13 +12,15 @@ use borrow.Author.Tests.{eqb-false, ltb-false, ne-eqb, le-ltb, lt-ltb, not-false
 use lib.Dec.{eqb, ltb}
 use lib.ListN.{length}
 use Rattle.laws.specs.All.{and-right}
-use Rattle.laws.specs.Every.{every, every-at}
-use Rattle.laws.specs.Refusal.{first, passed, numbered, first-after, first-none}
+use Rattle.laws.specs.Lists.{every, first}
+use Rattle.laws.specs.Every.{every-at}
+use Rattle.laws.specs.Refusal.{passed, numbered, first-after, first-none}
 use Rattle.laws.specs.Sums.{or-no}
 use Rattle.text.specs.Text.{wellFormed, numbers}
 use Rattle.site.specs.Site.{numbersHold}
 use Rattle.sections.specs.declared.Entry.{Entry}
-use Rattle.sections.specs.Sections.{entryWidth, repeatLimits, sectionOf, sectionTests, fromPumping, formTests, field, entriesOf, entryAt, repeatsHold}
+use Rattle.limits.specs.Limits.{repeatLimits}
+use Rattle.sections.specs.Sections.{entryWidth, sectionOf, sectionTests, fromPumping, formTests, field, entriesOf, entryAt, repeatsHold}
 use Rattle.sections.specs.Laws.{Form, form-numbered, form-passed, length-field, getD-field, between-most}
 use Rattle.sections.specs.Laws.{entries-most as form-entries}
 use Rattle.scenario.specs.declared.Pumping.{Pumping}

@@ -1,9 +1,8 @@
 -- The listing of a scenario text (document 01, the last paragraph of 'A step'), whole and piece by piece.
--- Assumes nothing.
 use mathlib.Core.Bool.{Bool, true, false}
 use mathlib.Core.List.{List, [], _∷_, _++_, map}
 use Prim.Native.Nat.{ℕ, suc}
-use Rattle.laws.specs.Sums.{range}
+use Rattle.laws.specs.Lists.{range}
 use Rattle.decimal.specs.Decimal.{digitsOf}
 use Rattle.text.specs.Text.{numbers}
 use Rattle.sections.specs.declared.Entry.{Entry}
@@ -13,10 +12,10 @@ use Rattle.record.specs.declared.Answer.{Answer}
 use Rattle.record.specs.declared.Outcome.{Outcome}
 use Rattle.scenario.specs.declared.Pumping.{Pumping}
 use Rattle.scenario.specs.Scenario.{startOf, entryOf}
-use Rattle.lines.specs.Word.{word}
-use Rattle.lines.specs.Lines.{lineFrom, held}
-use Rattle.runs.specs.Runs.{runOf}
-use Rattle.entry_line.specs.EntryLine.{entryLine}
+use Rattle.listing_lines.specs.Word.{word}
+use Rattle.listing_lines.specs.Lines.{lineFrom, held}
+use Rattle.listing_runs.specs.Runs.{runOf}
+use Rattle.listing_entry.specs.EntryLine.{entryLine}
 use Rattle.listing.specs.declared.Piece.{Piece}
 
 -- ---- the first line
@@ -35,13 +34,13 @@ scenarioLine refusal = lineFrom (word "scenario" ∷ digitsOf refusal ∷ [])
 unfoldable pub pumpingIn : List ℕ → List Entry
 pumpingIn text = map (entryAt (numbers text)) (range 0 (entriesOf (numbers text)))
 
-unfoldable pub ranOf : Record → Entry → Answer
-ranOf r e = runOf r (e .rate) (e .length) (e .repeats)
+unfoldable pub entryRun : Record → Entry → Answer
+entryRun r e = runOf r (e .rate) (e .length) (e .repeats)
 
 -- the lines of entries n, n + 1, ..: each runs from the record that the one before it left
 unfoldable pub linesOf : ℕ → List Entry → Record → List ℕ
 linesOf n [] r = []
-linesOf n (e ∷ es) r = entryLine n (ranOf r e) ++ linesOf (suc n) es (ranOf r e .«record»)
+linesOf n (e ∷ es) r = entryLine n (entryRun r e) ++ linesOf (suc n) es (entryRun r e .«record»)
 
 -- the header and a line an entry, counted from 1; of a refused scenario its number alone
 unfoldable pub listingOf : List ℕ → List ℕ
@@ -72,6 +71,6 @@ openingOf text = opened (startOf text)
 unfoldable pub nextOf : List ℕ → Record → ℕ → Piece
 nextOf text r done =
     elim (entryOf text (suc done)) [
-      | Pumping.Found e ↦ piece (entryLine (suc done) (ranOf r e)) (ranOf r e .«record») false
+      | Pumping.Found e ↦ piece (entryLine (suc done) (entryRun r e)) (entryRun r e .«record») false
       | Pumping.Refused k ↦ piece [] r true
     ]

@@ -4,7 +4,6 @@
 --     line-short       the line of an entry has at most 114 bytes, if those before it took no longer than they can
 --     recordAfter      the record that the first k entries of a text leave; short: so the line after it has at most 114 bytes
 --     listing-printed  they are the listing
--- Assumes nothing.
 use mathlib.Core.Path.{_≡_, refl, sym, ap, ap₂, _∙_}
 use mathlib.Core.Bool.{true, false}
 use mathlib.Core.List.{List, [], _∷_, _++_, map, append-nil}
@@ -13,13 +12,12 @@ use native.Mathlib.Nat.{mul-le-mul-right}
 use native.Mathlib.Omega.{arith}
 use lib.Dec.{lit≤}
 use lib.ListN.{length, take, length-append}
-use Rattle.laws.specs.Every.{every}
+use Rattle.laws.specs.Lists.{every, range}
 use Rattle.laws.specs.Refusal.{first-most}
-use Rattle.laws.specs.Sums.{range}
 use Rattle.decimal.specs.Decimal.{digitsOf}
 use Rattle.decimal.specs.Laws.{few-digits}
 use Rattle.text.specs.Text.{numbers}
-use Rattle.network.specs.Limits.{lengthLimit}
+use Rattle.limits.specs.Limits.{lengthLimit}
 use Rattle.sections.specs.declared.Entry.{Entry}
 use Rattle.sections.specs.Sections.{formTests, sectionTests, entriesOf, entryAt}
 use Rattle.record.specs.declared.Record.{Record}
@@ -28,15 +26,15 @@ use Rattle.record.specs.Record.{zeroRecord, outcomeOf, answerOf}
 use Rattle.scenario.specs.declared.Pumping.{Pumping}
 use Rattle.coefficients.specs.Coefficients.{startRecord}
 use Rattle.scenario.specs.Scenario.{scenarioOf, numberTests, textTests, textRefusal, startOf, entryOf}
-use Rattle.lines.specs.declared.Line.{Line}
-use Rattle.lines.specs.Word.{word}
-use Rattle.lines.specs.Lines.{lineFeed, lineFrom, lineBytes, held}
-use Rattle.lines.specs.Laws.{take-padded}
-use Rattle.runs.specs.Bounded.{mostRefusal, Bounded, run-bounded}
-use Rattle.entry_line.specs.EntryLine.{entryLine}
-use Rattle.entry_line.specs.Length.{entry-short}
+use Rattle.listing_lines.specs.declared.Line.{Line}
+use Rattle.listing_lines.specs.Word.{word}
+use Rattle.listing_lines.specs.Lines.{lineFeed, lineFrom, lineBytes, held}
+use Rattle.listing_lines.specs.Laws.{take-padded}
+use Rattle.listing_runs.specs.Bounded.{mostRefusal, Bounded, run-bounded}
+use Rattle.listing_entry.specs.EntryLine.{entryLine}
+use Rattle.listing_entry.specs.Length.{entry-short}
 use Rattle.listing.specs.declared.Piece.{Piece}
-use Rattle.listing.specs.Listing.{headerLine, scenarioLine, pumpingIn, ranOf, linesOf, listingOf, piece, opened, openingOf, nextOf}
+use Rattle.listing.specs.Listing.{headerLine, scenarioLine, pumpingIn, entryRun, linesOf, listingOf, piece, opened, openingOf, nextOf}
 use Rattle.listing.specs.Laws.{opened-taken, opened-refused, next-found, next-none}
 use Rattle.listing.specs.Entries.{Entered, entry-found, entry-is, entry-past, entries-most, repeats-most, past-most}
 
@@ -54,17 +52,17 @@ entryTime = 10 ^ 6 * lengthLimit
 
 -- ---- the run of an entry that follows `done` others
 module _ (text : List ℕ) (r : Record) (done : ℕ) (time : r .time ≤ done * entryTime) {e : Entry} (there : Entered text (suc done) e) where
-  pub entry-bounded : Bounded (suc done * entryTime) (ranOf r e)
-  unfolding ranOf
+  pub entry-bounded : Bounded (suc done * entryTime) (entryRun r e)
+  unfolding entryRun
   entry-bounded =
       let most : e .repeats ≤ 1000000 = rw (there .entry) at (repeats-most text (there .accepted) (suc done - 1) (omega (arith, there .most))) in
       let ran = run-bounded (e .rate) (e .length) (e .repeats) (done * entryTime) r time in
       record { time = omega (arith, ran .time, mul-le-mul-right lengthLimit most); number = ran .number }
 
-  pub line-short : length (entryLine (suc done) (ranOf r e)) ≤ 114
+  pub line-short : length (entryLine (suc done) (entryRun r e)) ≤ 114
   line-short =
       let few : suc done ≤ 500 = omega (arith, there .most, entries-most text (there .accepted)) in
-      entry-short (suc done) few (ranOf r e) (record { time = omega (arith, entry-bounded .time, mul-le-mul-right entryTime few); number = entry-bounded .number })
+      entry-short (suc done) few (entryRun r e) (record { time = omega (arith, entry-bounded .time, mul-le-mul-right entryTime few); number = entry-bounded .number })
 
 -- ---- the listing
 
@@ -104,7 +102,7 @@ module _ (text : List ℕ) (ok : textRefusal text ≡ 0) where
       ap (printedFrom (suc n) text (suc done)) (next-found text r done there)
       ∙ ap₂ _++_
       (bytes-held _ (omega (arith, line-short text r done t entered)))
-      (lines-printed n m (suc done) (ranOf r (entryAt (numbers text) done) .«record») (omega arith) (omega arith) (entry-bounded text r done t entered .time))
+      (lines-printed n m (suc done) (entryRun r (entryAt (numbers text) done) .«record») (omega arith) (omega arith) (entry-bounded text r done t entered .time))
 
 -- ---- the first piece
 

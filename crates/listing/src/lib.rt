@@ -1,29 +1,30 @@
 // The listing of a scenario text, piece by piece: each piece is a line, and the record from which the next entry runs.
-use entry_line::line;
-use lines::Line;
-use lines::empty;
-use lines::with_number;
-use lines::with_word;
+use limits::ENTRY_LIMIT;
+use listing_entry::line;
+use listing_lines::Line;
+use listing_lines::empty;
+use listing_lines::with_number;
+use listing_lines::with_word;
+use listing_runs::run_entry;
 use record::Outcome;
 use record::Record;
-use runs::run_entry;
 use scenario::Pumping;
 ghost use mathlib.Core.Path.{_≡_};
 ghost use mathlib.Core.Bool.{true};
 ghost use mathlib.Core.List.{[]};
 ghost use Prim.Native.Nat.{_≤_};
 ghost use lib.ListN.{length};
-ghost use Rattle.lines.specs.Lines.{Holds};
+ghost use Rattle.listing_lines.specs.Lines.{HoldsLine};
 ghost use Rattle.listing.specs.Listing.{headerLine, scenarioLine, piece, openingOf, nextOf};
 
 fn header_line() -> Line
-    ensures { λ r. ⌜ Holds headerLine r ⌝ }
+    ensures { λ r. ⌜ HoldsLine headerLine r ⌝ }
 {
     with_word(empty(), b"entry us well pumped wellloss cellloss inflow\n")
 }
 
 fn scenario_line(refusal: u64) -> Line
-    ensures { λ r. ⌜ Holds (scenarioLine refusal) r ⌝ }
+    ensures { λ r. ⌜ HoldsLine (scenarioLine refusal) r ⌝ }
 {
     let word = with_word(empty(), b"scenario ");
     with_number(word, refusal, b'\n')
@@ -56,9 +57,6 @@ pub fn opening(text: &[u8]) -> Piece
         },
     }
 }
-
-// The most pumping entries of a text.
-pub const ENTRY_LIMIT: u64 = 500;
 
 // Nothing follows.
 fn end_piece(record: Record) -> Piece

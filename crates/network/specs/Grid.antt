@@ -1,12 +1,11 @@
 -- The grid of 01 as a network: layers of cylindrical columns around the well.
 -- Layers count from 0 at the top (01's layer is one more). Columns count as in 01: column 0 is the well, columns 1 to m−1 store water,
 -- and column m is the last, at constant head.
--- Assumes nothing.
 use mathlib.Core.Bool.{Bool, false, cond}
 use mathlib.Core.List.{List, [], _∷_, _++_, map, flatMap}
 use Prim.Native.Nat.{ℕ, zero, suc, _+_, _*_, _-_}
 use lib.Dec.{eqb, ltb}
-use Rattle.laws.specs.Sums.{range}
+use Rattle.laws.specs.Lists.{range}
 use Rattle.network.specs.Network.{Face, Network}
 
 pub record Grid : Type 0 where

@@ -1,5 +1,4 @@
 -- What refusal 14 asks of the part of a record that a step moves, and what the laws of a step ask of a network.
--- Assumes nothing.
 use mathlib.Core.Path.{_≡_}
 use mathlib.Core.Bool.{true, false}
 use mathlib.Core.Logic.{_⊎_}
@@ -8,7 +7,7 @@ use Prim.Native.Nat.{ℕ, _*_, _≤_, _<_}
 use lib.IntN.{pos, _+ℤ_}
 use lib.Signed.{_≤ℤ_}
 use lib.ListN.{length}
-use Rattle.network.specs.Limits.{totalLimit, drawdownLimit}
+use Rattle.limits.specs.Limits.{totalLimit, drawdownLimit}
 use Rattle.network.specs.Network.{Face, Network, State, isPlace, lossAt, storageAt, drawdown, lossIn, wellTooDeep, tableTooDeep}
 
 -- p is in layer 1 or in the last column

@@ -1,4 +1,3 @@
-pub mod Limits
 pub mod Network
 pub mod Grid
 pub mod Kept

@@ -1,7 +1,6 @@
 -- A network of places joined by faces, and one explicit step on it: the rules of 'A step' and the refusals 7 to 11 of 01.
 -- Place 0 is the well. Whatever is not below the number of places is the last column, at constant head: its loss and its drawdown are 0.
 -- Units: losses V, totals and water nl; drawdowns D µm; C 10^-12 m²/s; S nl per m; times µs; rates ml/s; lengths mm.
--- Assumes nothing.
 use mathlib.Core.Bool.{Bool, true, false, cond, not, _||_}
 use mathlib.Core.List.{List, [], _∷_, map}
 use Prim.Native.Nat.{ℕ, _+_, _*_, _^_}
@@ -9,10 +8,8 @@ use lib.IntN.{ℤ, pos, negℤ, _+ℤ_, _-ℤ_, _*ℤ_}
 use lib.Signed.{quotZ, shrZ, ltZ}
 use lib.Dec.{eqb, leb, ltb}
 use lib.ListN.{getD, replicate}
-use Rattle.laws.specs.All.{allBelow}
-use Rattle.laws.specs.Refusal.{first}
-use Rattle.laws.specs.Sums.{ifℕ, ifℤ, sumℕ, sumℤ, range, some}
-use Rattle.network.specs.Limits.{rateLimit, lengthLimit, totalLimit}
+use Rattle.laws.specs.Lists.{allBelow, first, ifℕ, ifℤ, sumℕ, sumℤ, range, some}
+use Rattle.limits.specs.Limits.{rateLimit, lengthLimit, totalLimit}
 
 -- A face joins two places, or a place and the last column.
 pub record Face : Type 0 where

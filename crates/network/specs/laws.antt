@@ -2,6 +2,7 @@
 pub mod Ends
 pub mod Conserve
 pub mod Water
+pub mod Totals
 pub mod Bounds
 pub mod Preserve
 pub mod Places

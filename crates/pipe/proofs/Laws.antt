@@ -1,25 +1,21 @@
 -- Laws that this crate's proofs share: the lists of screened layers, centres and what lies above a layer.
--- Assumes nothing.
 use mathlib.Core.Path.{_≡_, refl, sym, ap, _∙_}
 use mathlib.Core.Bool.{Bool, true, false, cond, not, true≢false}
 use mathlib.Core.Logic.{⊎-elim}
 use mathlib.Core.List.{List, [], _∷_}
-use Prim.Native.Nat.{ℕ, zero, suc, _+_, _*_, _-_, _≤_, _<_}
+use Prim.Native.Nat.{ℕ, zero, suc, _+_, _*_, _≤_, _<_}
 use native.Mathlib.Numerals.{add-one}
 use native.Mathlib.Omega.{arith}
 use borrow.Author.Tests.{ltb-true, le-leb, lt-leb}
 use lib.Dec.{ltb}
 use lib.Ieee.{Float}
-use lib.IntN.{pos}
-use lib.ListN.{getD}
-use Rattle.laws.specs.Integer.{diff-le}
 use Rattle.laws.specs.Number.{below-or-not}
 use Rattle.laws.specs.Rows.{three-hold}
 use Rattle.site.specs.declared.Site.{Site}
 use Rattle.site.specs.Site.{isScreened, layerTop, topmostScreened, screenLayer, screenTop, screenHolds}
-use Rattle.hydraulics.specs.Hydraulics.{_⊕_, millionths, pipeLoss}
-use Rattle.pipe.specs.declared.Upward.the-variants.{Intake, Layer}
-use Rattle.pipe.specs.Pipe.{screenedUpTo, addedTo, added, velocityAt, twiceCentre, upwardFrom, twiceDistance, velocityAbove, pipeLossAt}
+use Rattle.hydraulics.specs.Hydraulics.{_⊕_}
+use Rattle.pipe.specs.declared.Upward.the-variants.{Layer}
+use Rattle.pipe.specs.Pipe.{screenedUpTo, addedTo, added, twiceCentre, upwardFrom}
 use Rattle.pipe.specs.Asked.{Screened}
 
 -- ---- the screened layers from the deepest upward
@@ -48,10 +44,6 @@ unfolding added
 added-from e k q = rw q
 
 -- ---- centres
-pub top-more : (thickness : List ℕ) (i d : ℕ) → d ≡ layerTop thickness i → d + getD thickness i 0 ≡ layerTop thickness (i + 1)
-unfolding layerTop
-top-more thickness i d e = rw (add-one i, e)
-
 top-le : (thickness : List ℕ) (k i : ℕ) → k ≤ i → layerTop thickness k ≤ layerTop thickness i
 unfolding layerTop
 top-le thickness k zero h = let e : k ≡ 0 = omega arith in rw e (omega arith)
@@ -102,15 +94,3 @@ module _ (s : Site) (i : ℕ) (h : Screened s i) where
   layer-above k q =
       let r = upward-layer (isScreened (s .screened)) i k q in
       (record { counts = h .counts; numbers = h .numbers; screen = h .screen; layer = omega (arith, h .layer, r .0); screened = r .1 }, centre-rises (s .thickness) k i (r .0))
-
-  -- ---- the pipe loss, by what lies above
-  module _ (e : ℕ → Float) where
-    pub to-intake : upwardFrom (isScreened (s .screened)) i ≡ Intake
-        → pipeLoss (millionths (s .friction)) (pos (twiceCentre (s .thickness) i - 2 * s .intake)) (s .radius) (velocityAt s e i) (velocityAt s e i) ≡ pipeLossAt s e i
-    unfolding pipeLossAt twiceDistance velocityAbove
-    to-intake q = rw (q, diff-le _ _ intake-above)
-
-    pub to-layer : (k : ℕ) → upwardFrom (isScreened (s .screened)) i ≡ Layer k
-        → pipeLoss (millionths (s .friction)) (pos (twiceCentre (s .thickness) i - twiceCentre (s .thickness) k)) (s .radius) (velocityAt s e i) (velocityAt s e k) ≡ pipeLossAt s e i
-    unfolding pipeLossAt twiceDistance velocityAbove
-    to-layer k q = rw (q, diff-le _ _ (layer-above k q .1))

@@ -1,5 +1,4 @@
 -- What the functions on a site ask: inner definitions, for the contracts of this crate's functions.
--- Assumes nothing.
 use mathlib.Core.Path.{_≡_}
 use mathlib.Core.Bool.{true}
 use mathlib.Core.List.{List}

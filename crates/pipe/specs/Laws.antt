@@ -1,7 +1,6 @@
 -- A screened layer's limits, and when the pipe loss is the same: laws only, nothing to believe.
 --     layer-small, thin, ..     what the limits of 3 say of a screened layer's numbers and of the well's
 --     pipe-loss-same            inflows that agree at every screened layer give the same pipe loss
--- Assumes nothing.
 use mathlib.Core.Path.{_≡_, refl, ap, _∙_}
 use mathlib.Core.Bool.{Bool, true, false, cond, _&&_}
 use mathlib.Core.List.{_∷_}
@@ -34,7 +33,7 @@ module _ (s : Site) (i : ℕ) (h : Screened s i) where
   pub thin : (k : ℕ) → k ≤ i → getD (s .thickness) k 0 ≤ 1000000
   thin k le = numbered .layer k (omega (arith, h .layer)) .thickness-most
 
-  pub radius-small : s .radius ≤ 5000
+  pub radius-small : s .«well_radius» ≤ 5000
   radius-small = numbered .well .radius-most
 
   pub friction-small : s .friction ≤ 1000000
@@ -43,7 +42,7 @@ module _ (s : Site) (i : ℕ) (h : Screened s i) where
   pub intake-small : s .intake ≤ 1000000
   intake-small = numbered .well .intake-most
 
-  pub coefficients-small : (1 ≤ s .coefficients → getD (s .loss) 0 0 ≤ 2 ^ 53) × (2 ≤ s .coefficients → getD (s .loss) 1 0 ≤ 2 ^ 53)
+  pub coefficients-small : (1 ≤ s .«loss_count» → getD (s .«loss_coefficients») 0 0 ≤ 2 ^ 53) × (2 ≤ s .«loss_count» → getD (s .«loss_coefficients») 1 0 ≤ 2 ^ 53)
   coefficients-small = ((λ n. omega (arith, numbered .coefficient 0 n)), (λ n. omega (arith, numbered .coefficient 1 n)))
 
 -- ---- inflows that agree at every screened layer give the same pipe loss
@@ -75,7 +74,7 @@ module _ (e f : ℕ → Float) (t : ℕ → Bool) (i : ℕ) where
 module _ (s : Site) (e f : ℕ → Float) (same : (k : ℕ) → k < s .layers → isScreened (s .screened) k ≡ true → e k ≡ f k) where
   velocity-same : (i : ℕ) → velocityAt s e i ≡ velocityAt s f i
   unfolding velocityAt
-  velocity-same i = ap (λ x. velocity x (s .radius)) (added-same e f (isScreened (s .screened)) i (s .layers) same)
+  velocity-same i = ap (λ x. velocity x (s .«well_radius»)) (added-same e f (isScreened (s .screened)) i (s .layers) same)
 
   above-same : (i : ℕ) (u : Upward) → velocityAbove s e i u ≡ velocityAbove s f i u
   unfolding velocityAbove

@@ -1,7 +1,6 @@
 -- The pipe of a well, layer by layer (document 01, 'Readings', last paragraph): the flow in it, its velocity, and its head loss up to the next
--- screened layer. The formulas stand in hydraulics. Layers count from 0 here (01's layer is one more). e of a layer is its inflow.
+-- screened layer. The formulas stand in hydraulics. e of a layer is its inflow.
 -- Lengths are mm, flows l/s, velocities m/s, head losses m.
--- Assumes nothing.
 use mathlib.Core.Bool.{Bool, cond, _&&_}
 use mathlib.Core.List.{List, [], _∷_}
 use Prim.Native.Nat.{ℕ, zero, suc, _+_, _*_}
@@ -34,7 +33,7 @@ added e (k ∷ ks) = addedTo e (e k) ks
 
 -- v of layer i of a site, by the e of its layers
 unfoldable pub velocityAt : Site → (ℕ → Float) → ℕ → Float
-velocityAt s e i = velocity (added e (screenedUpTo (isScreened (s .screened)) i (s .layers))) (s .radius)
+velocityAt s e i = velocity (added e (screenedUpTo (isScreened (s .screened)) i (s .layers))) (s .«well_radius»)
 
 -- ---- the pipe loss
 
@@ -59,5 +58,5 @@ velocityAbove s e i (Layer k) = velocityAt s e k
 
 unfoldable pub pipeLossAt : Site → (ℕ → Float) → ℕ → Float
 pipeLossAt s e i =
-    pipeLoss (millionths (s .friction)) (twiceDistance s i (upwardFrom (isScreened (s .screened)) i)) (s .radius)
+    pipeLoss (millionths (s .friction)) (twiceDistance s i (upwardFrom (isScreened (s .screened)) i)) (s .«well_radius»)
     (velocityAt s e i) (velocityAbove s e i (upwardFrom (isScreened (s .screened)) i))

@@ -1,7 +1,5 @@
 -- The readings of a record in whole numbers (document 01, 'Readings' and 'Who brings a refusal about').
--- Each is judged in the order 14, 12, 13, 7 (its length part), 8, as far as it has such a condition. Layers and columns that a caller names
--- count from 1, as in 01; those of a grid count layers from 0.
--- Assumes nothing.
+-- Each is judged in the order 14, 12, 13, 7 (its length part), 8, as far as it has such a condition.
 use mathlib.Core.Bool.{Bool, true, false, cond, not, _&&_, _||_}
 use mathlib.Core.Path.{_≡_}
 use mathlib.Core.List.{List, [], _∷_}
@@ -10,9 +8,7 @@ use lib.IntN.{ℤ, pos, negℤ}
 use lib.Dec.{eqb, leb, ltb}
 use lib.Signed.{ltZ}
 use lib.ListN.{length, getD, take, drop}
-use Rattle.laws.specs.All.{allBelow}
-use Rattle.laws.specs.Refusal.{first}
-use Rattle.laws.specs.Sums.{ifℕ, sumℕ}
+use Rattle.laws.specs.Lists.{allBelow, first, ifℕ, sumℕ}
 use Rattle.network.specs.Network.{Face, Network, State, lossAt, drawdown, flow, lossIn, lengthOut, unstable}
 use Rattle.network.specs.Grid.{Grid, storedColumns, layersOf, placeCount, place, acrossFace, downFace, networkOf}
 use Rattle.record.specs.declared.Record.{Record}
@@ -125,19 +121,28 @@ flowOf r a b dt =
     ∷ []))
     (waterFrom (gridOf r) (stateOf r .losses) dt a b)
 
--- ---- cells deeper than D
+-- ---- cells deeper than D, of a grid with the losses vs, and of a record
 
 -- the cell of layer i, from 0, and column j is deeper
+abbrev pub isDeeperIn : Grid → List ℤ → ℕ → ℕ → ℕ → Bool
+isDeeperIn G vs D i j = ltZ (pos D) (drawdown (networkOf G) vs (place G i j))
+
 unfoldable pub isDeeper : Record → ℕ → ℕ → ℕ → Bool
-isDeeper r D i j = ltZ (pos D) (drawdown (networkOf (gridOf r)) (stateOf r .losses) (place (gridOf r) i j))
+isDeeper r D i j = isDeeperIn (gridOf r) (stateOf r .losses) D i j
 
 -- c is layer×100+column of such a cell
+abbrev pub isDeepCodeIn : Grid → List ℤ → ℕ → ℕ → Bool
+isDeepCodeIn G vs D c = isLayer G (c / 100) && isStored G (c % 100) && isDeeperIn G vs D (c / 100 - 1) (c % 100)
+
 unfoldable pub isDeepCode : Record → ℕ → ℕ → Bool
-isDeepCode r D c = isLayer (gridOf r) (c / 100) && isStored (gridOf r) (c % 100) && isDeeper r D (c / 100 - 1) (c % 100)
+isDeepCode r D c = isDeepCodeIn (gridOf r) (stateOf r .losses) D c
 
 -- how many such cells there are
+abbrev pub deepCountIn : Grid → List ℤ → ℕ → ℕ
+deepCountIn G vs D = sumℕ (layersOf G) λ i. sumℕ (storedColumns G) λ j. ifℕ (isDeeperIn G vs D i j) 1
+
 unfoldable pub deepCount : Record → ℕ → ℕ
-deepCount r D = sumℕ (layersOf (gridOf r)) λ i. sumℕ (storedColumns (gridOf r)) λ j. ifℕ (isDeeper r D i j) 1
+deepCount r D = deepCountIn (gridOf r) (stateOf r .losses) D
 
 -- a list with n slots is too short for them
 unfoldable pub deepRefusal : Record → ℕ → ℕ → ℕ
@@ -147,21 +152,29 @@ deepRefusal r D n = first ((not (valid r), 14) ∷ (ltb n (deepCount r D), 13) �
 unfoldable pub times : ℕ → List ℕ → ℕ
 times c l = sumℕ l λ x. ifℕ (eqb x c) 1
 
--- how many slots of a list with n slots are written: none where the reading is refused
-unfoldable pub written : Record → ℕ → ℕ → ℕ
-written r D n = cond (eqb (deepRefusal r D n) 0) (deepCount r D) 0
+-- how many slots of a list are written for so many cells: none where the reading is refused
+unfoldable pub written : ℕ → ℕ → ℕ
+written refused count = cond (eqb refused 0) count 0
 
--- The answer, and what a lent list `old` is after it: each such cell's code once in the part written, in any order, and no other; the rest as before.
-pub record Deep (r : Record) (D : ℕ) (old : List ℕ) (answer : Count) (new : List ℕ) : Type 0 where
-  pub answered : answer ≡ countOf (deepRefusal r D (length old)) (deepCount r D)
-  pub once : (c : ℕ) → times c (take (written r D (length old)) new) ≡ ifℕ (eqb (deepRefusal r D (length old)) 0 && isDeepCode r D c) 1
+-- The answer, and what a lent list `old` is after it, by the number of the first refusal, 0 for none, the count of the cells and which codes are theirs:
+-- each such code once in the part written, in any order, and no other; the rest as before.
+pub record Listed (refused count : ℕ) (isCode : ℕ → Bool) (old : List ℕ) (answer : Count) (new : List ℕ) : Type 0 where
+  pub answered : answer ≡ countOf refused count
+  pub once : (c : ℕ) → times c (take (written refused count) new) ≡ ifℕ (eqb refused 0 && isCode c) 1
   pub slots : length new ≡ length old
-  pub rest : drop (written r D (length old)) new ≡ drop (written r D (length old)) old
+  pub rest : drop (written refused count) new ≡ drop (written refused count) old
+
+abbrev pub Deep : Record → ℕ → List ℕ → Count → List ℕ → Type 0
+Deep r D old answer new = Listed (deepRefusal r D (length old)) (deepCount r D) (isDeepCode r D) old answer new
 
 -- ---- whether two records are the same: equal layer and column counts, equal D everywhere
 
+-- equal D at each place of a grid with the losses vs and of another with the losses ws
+abbrev pub sameDepthsIn : Grid → List ℤ → Grid → List ℤ → Bool
+sameDepthsIn G vs H ws = allBelow (placeCount G) λ p. equalℤ (drawdown (networkOf G) vs p) (drawdown (networkOf H) ws p)
+
 unfoldable pub sameDepths : Record → Record → Bool
-sameDepths r q = allBelow (placeCount (gridOf r)) λ p. equalℤ (drawdown (networkOf (gridOf r)) (stateOf r .losses) p) (drawdown (networkOf (gridOf q)) (stateOf q .losses) p)
+sameDepths r q = sameDepthsIn (gridOf r) (stateOf r .losses) (gridOf q) (stateOf q .losses)
 
 unfoldable pub sameOf : Record → Record → Sameness
 sameOf r q =

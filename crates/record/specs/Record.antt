@@ -1,13 +1,12 @@
 -- What a record holds: its slots, the all-zero record, its grid and its state, and the answer that start and step give.
--- Layers count from 0 (01's layer is one more); columns from 1, and column 0 is the well.
--- Assumes nothing.
 use mathlib.Core.Bool.{Bool, _&&_}
 use mathlib.Core.List.{List, map}
 use Prim.Native.Nat.{ℕ, zero, suc, _+_, _*_, _-_, _/_, _%_}
 use lib.IntN.{pos}
 use lib.Dec.{ltb}
 use lib.ListN.{getD, replicate}
-use Rattle.laws.specs.Sums.{range}
+use Rattle.laws.specs.Lists.{range}
+use Rattle.limits.specs.Limits.{layerPlaces, columnPlaces, coefficientPlaces, cellPlaces}
 use Rattle.network.specs.Network.{State}
 use Rattle.network.specs.Grid.{Grid, onePerPlace}
 use Rattle.site.specs.declared.Site.{Site}
@@ -20,15 +19,15 @@ use Rattle.record.specs.declared.Outcome.the-variants.{Taken, Refused}
 -- ---- slots
 -- the slot of the cell of layer i and column j in an array by cell
 unfoldable pub slot : ℕ → ℕ → ℕ
-slot i j = 50 * i + (j - 1)
+slot i j = columnPlaces * i + (j - 1)
 
 -- an array by cell: f of each layer and column, in the order of the slots
 unfoldable pub slots : {A : Type 0} → (ℕ → ℕ → A) → List A
-slots f = map (λ k. f (k / 50) (k % 50 + 1)) (range 0 1000)
+slots f = map (λ k. f (k / columnPlaces) (k % columnPlaces + 1)) (range 0 cellPlaces)
 
 -- an array by layer
 unfoldable pub layerSlots : {A : Type 0} → (ℕ → A) → List A
-layerSlots f = map f (range 0 20)
+layerSlots f = map f (range 0 layerPlaces)
 
 -- layer i and column j have a stored cell, and with it a face toward the next column
 unfoldable pub isCell : Site → ℕ → ℕ → Bool
@@ -46,29 +45,29 @@ hasScreen s i = ltb i (s .layers) && isScreened (s .screened) i
 unfoldable pub zeroSite : Site
 zeroSite = record {
   layers = 0;
-  thickness = replicate 20 0;
-  screened = replicate 20 0;
-  kh = replicate 20 0;
-  kv = replicate 20 0;
-  storage = replicate 20 0;
+  thickness = replicate layerPlaces 0;
+  screened = replicate layerPlaces 0;
+  kh = replicate layerPlaces 0;
+  kv = replicate layerPlaces 0;
+  storage = replicate layerPlaces 0;
   columns = 0;
-  radii = replicate 50 0;
-  radius = 0;
-  area = 0;
+  radii = replicate columnPlaces 0;
+  «well_radius» = 0;
+  «water_area» = 0;
   intake = 0;
   friction = 0;
-  coefficients = 0;
-  loss = replicate 2 0;
+  «loss_count» = 0;
+  «loss_coefficients» = replicate coefficientPlaces 0;
 }
 
 unfoldable pub zeroRecord : Record
 zeroRecord = record {
   site = zeroSite;
-  screen = replicate 20 0;
-  horizontal = replicate 1000 0;
-  vertical = replicate 1000 0;
-  storages = replicate 1000 0;
-  losses = replicate 1000 (pos 0);
+  screen = replicate layerPlaces 0;
+  horizontal = replicate cellPlaces 0;
+  vertical = replicate cellPlaces 0;
+  storages = replicate cellPlaces 0;
+  losses = replicate cellPlaces (pos 0);
   «well_storage» = 0;
   «well_loss» = pos 0;
   pumped = 0;

@@ -1,4 +1,8 @@
 // The record of a run, by value, and the answer that start and step give.
+use limits::CELL_PLACES;
+use limits::COEFFICIENT_PLACES;
+use limits::COLUMN_PLACES;
+use limits::LAYER_PLACES;
 use site::Site;
 ghost use mathlib.Core.Path.{_≡_};
 ghost use Rattle.record.specs.Record.{zeroRecord};
@@ -8,11 +12,11 @@ ghost use Rattle.record.specs.Record.{zeroRecord};
 // A slot that no layer, column, face or place uses is 0; so the last column's slots are.
 pub struct Record {
     pub site: Site, // the numbers of the first four sections
-    pub screen: [u64; 20], // C between the well and column 1, 10^-12 m²/s
-    pub horizontal: [u64; 1000], // C between the cell and the next column, 10^-12 m²/s
-    pub vertical: [u64; 1000], // C between the cell and the layer below, 10^-12 m²/s
-    pub storages: [u64; 1000], // S of the cell, nl per m
-    pub losses: [i64; 1000], // V of the cell, nl
+    pub screen: [u64; LAYER_PLACES], // C between the well and column 1, 10^-12 m²/s
+    pub horizontal: [u64; CELL_PLACES], // C between the cell and the next column, 10^-12 m²/s
+    pub vertical: [u64; CELL_PLACES], // C between the cell and the layer below, 10^-12 m²/s
+    pub storages: [u64; CELL_PLACES], // S of the cell, nl per m
+    pub losses: [i64; CELL_PLACES], // V of the cell, nl
     pub well_storage: u64, // S of the well, nl per m
     pub well_loss: i64, // V of the well, nl
     pub pumped: u64, // pumped total, nl
@@ -31,6 +35,13 @@ pub struct Answer {
     pub record: Record,
 }
 
+// What became of many steps: taken, or the refusal that ended them; the record after those before it, and how many these were.
+pub struct Repeated {
+    pub outcome: Outcome,
+    pub record: Record,
+    pub taken: u64,
+}
+
 // The all-zero record, of which every array begins as zeros.
 pub fn all_zero() -> Record
     ensures { λ r. ⌜ r ≡ zeroRecord ⌝ }
@@ -38,25 +49,25 @@ pub fn all_zero() -> Record
     Record {
         site: Site {
             layers: 0,
-            thickness: [0; 20],
-            screened: [0; 20],
-            kh: [0; 20],
-            kv: [0; 20],
-            storage: [0; 20],
+            thickness: [0; LAYER_PLACES],
+            screened: [0; LAYER_PLACES],
+            kh: [0; LAYER_PLACES],
+            kv: [0; LAYER_PLACES],
+            storage: [0; LAYER_PLACES],
             columns: 0,
-            radii: [0; 50],
-            radius: 0,
-            area: 0,
+            radii: [0; COLUMN_PLACES],
+            well_radius: 0,
+            water_area: 0,
             intake: 0,
             friction: 0,
-            coefficients: 0,
-            loss: [0; 2],
+            loss_count: 0,
+            loss_coefficients: [0; COEFFICIENT_PLACES],
         },
-        screen: [0; 20],
-        horizontal: [0; 1000],
-        vertical: [0; 1000],
-        storages: [0; 1000],
-        losses: [0; 1000],
+        screen: [0; LAYER_PLACES],
+        horizontal: [0; CELL_PLACES],
+        vertical: [0; CELL_PLACES],
+        storages: [0; CELL_PLACES],
+        losses: [0; CELL_PLACES],
         well_storage: 0,
         well_loss: 0,
         pumped: 0,

@@ -1,29 +1,25 @@
 -- What the tests of a text come to, case by case, and the answers with it.
--- Assumes nothing.
 use mathlib.Core.Path.{_≡_, refl, sym, ap, _∙_}
 use mathlib.Core.Bool.{Bool, true, false, not, _&&_}
 use mathlib.Core.List.{List, _∷_}
 use Prim.Native.Nat.{ℕ, zero, suc, _-_, _≤_, _<_}
-use native.Mathlib.Omega.{arith}
-use lib.ListN.{length}
 use borrow.Author.Tests.{eq-eqb, ne-eqb, lt-ltb, le-ltb}
-use Rattle.laws.specs.Every.{every}
-use Rattle.laws.specs.Padded.{padded}
-use Rattle.laws.specs.Refusal.{first, First, none, hit, skip, first-is, first-before, first-after, numbered, numbered-append}
-use Rattle.text.specs.declared.Numbers.{Numbers}
-use Rattle.text.specs.Text.{wellFormed, numbers, formedWith, readOf}
+use Rattle.laws.specs.Lists.{every, first}
+use Rattle.laws.specs.Refusal.{First, none, hit, skip, first-is, first-before, first-after, numbered, numbered-append}
+use Rattle.text.specs.Text.{wellFormed, numbers}
 use Rattle.site.specs.declared.Site.{Site}
 use Rattle.site.specs.Site.{numbersHold, radiiHold, screenHolds}
 use Rattle.sections.specs.Sections.{formTests, siteOf, repeatsHold, entriesOf, entryAt}
 use Rattle.sections.specs.declared.Entry.{Entry}
 use Rattle.sections.specs.Laws.{form-numbered}
-use Rattle.slots.specs.Slots.{coefficientsHold}
+use Rattle.coefficient_slots.specs.Slots.{coefficientsHold}
 use Rattle.coefficients.specs.declared.Coefficients.{Coefficients}
 use Rattle.coefficients.specs.Coefficients.{scenarioGrid, startRecord, coefficientsOf}
 use Rattle.record.specs.declared.Record.{Record}
 use Rattle.record.specs.declared.Answer.{Answer}
 use Rattle.record.specs.declared.Outcome.the-variants.{Taken, Refused}
 use Rattle.record.specs.Record.{zeroRecord, outcomeOf, answerOf}
+use Rattle.record.specs.Laws.{outcome-of, refusal-of, taken-of}
 use Rattle.scenario.specs.declared.Pumping.{Pumping}
 use Rattle.scenario.specs.Scenario.{scenarioOf, numberTests, textTests, textRefusal, startOf, pumpingOf, entryTests, entryOf}
 
@@ -36,7 +32,7 @@ module _ (text : List ℕ) where
   unfolding textRefusal textTests first
   unread e h = rw e (first-before (formTests (numbers text)) (numberTests (scenarioOf text) (repeatsHold (numbers text))) h)
 
-  pub read : wellFormed text ≡ true → first (formTests (numbers text)) ≡ 0 → textRefusal text ≡ first (numberTests (scenarioOf text) (repeatsHold (numbers text)))
+  read : wellFormed text ≡ true → first (formTests (numbers text)) ≡ 0 → textRefusal text ≡ first (numberTests (scenarioOf text) (repeatsHold (numbers text)))
   unfolding textRefusal textTests first
   read e h = rw e (first-after (formTests (numbers text)) (numberTests (scenarioOf text) (repeatsHold (numbers text))) (form-numbered (numbers text)) h)
 
@@ -84,15 +80,6 @@ made-is s e h = ap (λ r. r .«record») e ∙ rw h
 
 -- ---- start
 module _ (text : List ℕ) where
-  -- the numbers that are read from a text of the form
-  pub values-are : wellFormed text ≡ true → {r : Numbers} → r ≡ readOf text → r .values ≡ padded 1662 0 (numbers text)
-  unfolding readOf formedWith
-  values-are e {r} p = ap (λ n. n .values) p ∙ rw e
-
-  pub count-are : wellFormed text ≡ true → {r : Numbers} → r ≡ readOf text → r .count ≡ length (numbers text)
-  unfolding readOf formedWith
-  count-are e {r} p = ap (λ n. n .count) p ∙ rw e
-
   pub start-refused : (m : ℕ) → (m ≡ 0 → ⊥) → textRefusal text ≡ m → {a : Answer} → a ≡ record { outcome = Refused m; «record» = zeroRecord } → a ≡ startOf text
   unfolding startOf answerOf outcomeOf
   start-refused zero h e p = absurd (h refl)
@@ -111,30 +98,6 @@ head-numbered b ts e = e
 number-tests-numbered : (s : Site) (b : Bool) → numbered (numberTests s b) ≡ true
 unfolding numbered every numberTests
 number-tests-numbered s b = refl
-
-outcome-of : (m : ℕ) (old new : Record) → answerOf m old new .outcome ≡ outcomeOf m
-unfolding answerOf outcomeOf
-outcome-of zero old new = refl
-outcome-of (suc m) old new = refl
-
-refusal-of : (m n : ℕ) → outcomeOf m ≡ Refused n → (m ≡ n) × (m ≡ 0 → ⊥)
-unfolding outcomeOf
-refusal-of zero n e = absurd (never e)
-  where
-    never : Taken ≡ Refused n → ⊥
-    never p = let z : _≡_ {A = ℕ} 0 1 = cc in omega arith
-refusal-of (suc m) n e = (same e, λ z. omega arith)
-  where
-    same : Refused (suc m) ≡ Refused n → suc m ≡ n
-    same p = cc
-
-taken-of : (m : ℕ) → outcomeOf m ≡ Taken → m ≡ 0
-unfolding outcomeOf
-taken-of zero e = refl
-taken-of (suc m) e = absurd (never e)
-  where
-    never : Refused (suc m) ≡ Taken → ⊥
-    never p = let z : _≡_ {A = ℕ} 0 1 = cc in omega arith
 
 refused-pumping : (m : ℕ) (e : Entry) → (m ≡ 0 → ⊥) → pumpingOf m e ≡ Pumping.Refused m
 unfolding pumpingOf

@@ -1,10 +1,9 @@
 -- What start and pumping_entry answer to a text (document 01, 'The scenario text' and 'Who brings a refusal about'). A text is the list of its bytes.
--- Assumes nothing.
 use mathlib.Core.Bool.{Bool, not, _&&_, _||_}
 use mathlib.Core.List.{List, [], _∷_, _++_}
 use Prim.Native.Nat.{ℕ, zero, suc, _-_}
 use lib.Dec.{eqb, ltb}
-use Rattle.laws.specs.Refusal.{first}
+use Rattle.laws.specs.Lists.{first}
 use Rattle.text.specs.Text.{wellFormed, numbers}
 use Rattle.site.specs.declared.Site.{Site}
 use Rattle.site.specs.Site.{numbersHold, radiiHold, screenHolds}
@@ -12,7 +11,7 @@ use Rattle.sections.specs.declared.Entry.{Entry}
 use Rattle.sections.specs.Sections.{formTests, siteOf, repeatsHold, entriesOf, entryAt}
 use Rattle.record.specs.declared.Answer.{Answer}
 use Rattle.record.specs.Record.{zeroRecord, answerOf}
-use Rattle.slots.specs.Slots.{coefficientsHold}
+use Rattle.coefficient_slots.specs.Slots.{coefficientsHold}
 use Rattle.coefficients.specs.Coefficients.{scenarioGrid, startRecord}
 use Rattle.scenario.specs.declared.Pumping.{Pumping}
 use Rattle.scenario.specs.declared.Pumping.the-variants.{Found, Refused}

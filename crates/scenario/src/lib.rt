@@ -1,5 +1,6 @@
 // The scenario text: the record at the start of a run, and the pumping entries.
 use coefficients::coefficients_of;
+use limits::NUMBER_PLACES;
 use record::Answer;
 use record::Outcome;
 use record::Record;
@@ -10,7 +11,7 @@ ghost use mathlib.Core.Path.{_≡_};
 ghost use mathlib.Core.Bool.{true};
 ghost use mathlib.Core.List.{List};
 ghost use Prim.Native.Nat.{ℕ, _-_};
-ghost use Rattle.laws.specs.Refusal.{first};
+ghost use Rattle.laws.specs.Lists.{first};
 ghost use Rattle.text.specs.Text.{numbers};
 ghost use Rattle.site.specs.Site.{countsHold};
 ghost use Rattle.sections.specs.Reading.{Reads};
@@ -67,7 +68,7 @@ fn made(site: Site, repeats: bool) -> Answer
 struct Judged {
     answer: Answer,
     layout: Layout,
-    values: [u64; 1662],
+    values: [u64; NUMBER_PLACES],
 }
 
 fn unread(number: u64) -> Judged
@@ -82,7 +83,7 @@ fn unread(number: u64) -> Judged
             loss: 0,
             pumping: 0,
         },
-        values: [0; 1662],
+        values: [0; NUMBER_PLACES],
     }
 }
 
@@ -117,7 +118,7 @@ pub fn start(text: &[u8]) -> Answer
 }
 
 // A pumping entry of an accepted text, by its number.
-fn found(values: &[u64; 1662], layout: Layout, number: u64) -> Pumping
+fn found(values: &[u64; NUMBER_PLACES], layout: Layout, number: u64) -> Pumping
     requires { ⌜ ((ns : List ℕ) × Reads (now values) layout ns) ⌝ }
     ensures { λ r. ⌜ ((ns : List ℕ) → Reads (now (values .entry)) layout ns → r ≡ pumpingOf (first (entryTests ns number)) (entryAt ns (number - 1))) ⌝ }
 {

@@ -3,7 +3,6 @@
 --     first-on         where none held, it is the first of the part's tests
 --     one-more         the same for a section, from the walk of its three tests and the place after it
 --     no-count, bad-count, few-numbers, section-whole: that walk, by where it ends
--- Assumes nothing.
 use mathlib.Core.Path.{_≡_, refl, sym, ap, _∙_}
 use mathlib.Core.Bool.{Bool, true, false, not}
 use mathlib.Core.List.{List, _++_}
@@ -13,13 +12,13 @@ use native.Mathlib.Omega.{arith}
 use lib.ListN.{length, length-drop}
 use lib.Seq.{drop-drop}
 use borrow.Author.Tests.{eq-eqb, ne-eqb, lt-ltb, le-ltb}
-use Rattle.laws.specs.Every.{every}
-use Rattle.laws.specs.Refusal.{first, First, none, hit, skip, first-is, first-before, first-after, first-none, numbered, numbered-append}
-use Rattle.sections.specs.declared.Judged.{Judged}
-use Rattle.sections.specs.Sections.{countOf, restOf, sectionTests}
+use Rattle.laws.specs.Lists.{every, first}
+use Rattle.laws.specs.Refusal.{First, none, hit, skip, first-is, first-before, first-after, first-none, numbered, numbered-append}
+use Rattle.sections.specs.declared.Reached.{Reached}
+use Rattle.sections.specs.Sections.{sectionCount, restOf, sectionTests}
 use Rattle.sections.specs.Reading.{Passed, Section}
 
-module _ {ns rest : List ℕ} {ts : List (Bool × ℕ)} {s : Judged} (p : Passed ns ts rest s) where
+module _ {ns rest : List ℕ} {ts : List (Bool × ℕ)} {s : Reached} (p : Passed ns ts rest s) where
   pub first-stopped : (us : List (Bool × ℕ)) → (s .refusal ≡ 0 → ⊥) → s .refusal ≡ first (ts ++ us)
   first-stopped us h = p .refusal ∙ sym (first-before ts us (λ e. h (p .refusal ∙ e)))
 
@@ -38,8 +37,8 @@ module _ {ns rest : List ℕ} {ts : List (Bool × ℕ)} {s : Judged} (p : Passed
   unrefused us e = p .refusal ∙ first-none ts us e
 
 pub one-more :
-    {total width count : ℕ} {within : Bool} {s r : Judged} → s .refusal ≡ 0 →
-    ((limits : ℕ → Bool) (rest : List ℕ) → length rest ≡ total - s .next → within ≡ limits (countOf rest) → count ≡ countOf rest → First (sectionTests limits width rest) (r .refusal)) →
+    {total width count : ℕ} {within : Bool} {s r : Reached} → s .refusal ≡ 0 →
+    ((limits : ℕ → Bool) (rest : List ℕ) → length rest ≡ total - s .next → within ≡ limits (sectionCount rest) → count ≡ sectionCount rest → First (sectionTests limits width rest) (r .refusal)) →
     (r .refusal ≡ 0 → r .next ≡ s .next + 1 + width * count) →
     ((most : ℕ) → (within ≡ true → count ≤ most) → r .next ≤ s .next + 1 + width * most) →
     Section total width count within s r
@@ -59,14 +58,14 @@ module _ (limits : ℕ → Bool) (width : ℕ) (rest : List ℕ) where
   unfolding sectionTests
   no-count e = hit (eq-eqb (length rest) 0 e)
 
-  pub bad-count : 0 < length rest → limits (countOf rest) ≡ false → First (sectionTests limits width rest) 2
+  pub bad-count : 0 < length rest → limits (sectionCount rest) ≡ false → First (sectionTests limits width rest) 2
   unfolding sectionTests
   bad-count h e = skip (ne-eqb (length rest) 0 (omega arith)) (hit (ap not e))
 
-  pub few-numbers : 0 < length rest → limits (countOf rest) ≡ true → length rest ≤ width * countOf rest → First (sectionTests limits width rest) 1
+  pub few-numbers : 0 < length rest → limits (sectionCount rest) ≡ true → length rest ≤ width * sectionCount rest → First (sectionTests limits width rest) 1
   unfolding sectionTests
-  few-numbers h e few = skip (ne-eqb (length rest) 0 (omega arith)) (skip (ap not e) (hit (lt-ltb (length rest) (1 + width * countOf rest) (omega arith))))
+  few-numbers h e few = skip (ne-eqb (length rest) 0 (omega arith)) (skip (ap not e) (hit (lt-ltb (length rest) (1 + width * sectionCount rest) (omega arith))))
 
-  pub section-whole : limits (countOf rest) ≡ true → width * countOf rest < length rest → First (sectionTests limits width rest) 0
+  pub section-whole : limits (sectionCount rest) ≡ true → width * sectionCount rest < length rest → First (sectionTests limits width rest) 0
   unfolding sectionTests
-  section-whole e enough = skip (ne-eqb (length rest) 0 (omega arith)) (skip (ap not e) (skip (le-ltb (length rest) (1 + width * countOf rest) (omega arith)) none))
+  section-whole e enough = skip (ne-eqb (length rest) 0 (omega arith)) (skip (ap not e) (skip (le-ltb (length rest) (1 + width * sectionCount rest) (omega arith)) none))

@@ -4,7 +4,6 @@
 --     copied-field, copied-section    those, copied one after the other to an array of zeros
 --     places             how far from the front the sections' counts can be; counts-read: what stands there
 --     entry-read, repeats-read    the numbers of the pumping entries; site-read: those of the first four sections, all together
--- Assumes nothing.
 use mathlib.Core.Path.{_≡_, refl, sym, ap, _∙_}
 use mathlib.Core.Bool.{Bool}
 use mathlib.Core.List.{List, [], _∷_}
@@ -13,46 +12,48 @@ use native.Mathlib.Nat.{add-zero, mul-le-mul-left}
 use native.Mathlib.Omega.{arith}
 use lib.ListN.{length, getD, drop, replicate, length-drop}
 use lib.Seq.{getD-take, getD-drop}
-use Rattle.laws.specs.Padded.{padded, getD-padded}
+use Rattle.laws.specs.Lists.{padded}
+use Rattle.laws.specs.Padded.{getD-padded}
 use Rattle.laws.specs.Pointwise.{fill-padded}
+use Rattle.limits.specs.Limits.{numberPlaces}
 use Rattle.site.specs.declared.Site.{Site}
 use Rattle.sections.specs.declared.Layout.{Layout}
-use Rattle.sections.specs.Sections.{layerWidth, entryWidth, countOf, sectionOf, restOf, field, fromColumns, fromWell, fromLoss, fromPumping, siteOf, entriesOf}
+use Rattle.sections.specs.Sections.{layerWidth, entryWidth, sectionCount, sectionOf, restOf, field, fromColumns, fromWell, fromLoss, fromPumping, siteOf, entriesOf}
 use Rattle.sections.specs.Reading.{Reads, fieldCopy, sectionCopy, layerCopy}
 use Rattle.sections.specs.Laws.{SectionFits, Form, form-passed, length-rest, length-section, length-field, getD-field, counts-most}
 
-module _ (ns : List ℕ) (at : ℕ) {values rest : List ℕ} (held : values ≡ padded 1662 0 ns) (e : rest ≡ drop at ns) where
-  pub number-read : (k : ℕ) → at + k < 1662 → getD values (at + k) 0 ≡ getD rest k 0
-  number-read k h = rw (held, e) (getD-padded 1662 0 ns (at + k) h ∙ sym (getD-drop at ns k 0))
+module _ (ns : List ℕ) (at : ℕ) {values rest : List ℕ} (held : values ≡ padded numberPlaces 0 ns) (e : rest ≡ drop at ns) where
+  number-read : (k : ℕ) → at + k < numberPlaces → getD values (at + k) 0 ≡ getD rest k 0
+  number-read k h = rw (held, e) (getD-padded numberPlaces 0 ns (at + k) h ∙ sym (getD-drop at ns k 0))
 
-  pub count-read : at < 1662 → getD values at 0 ≡ countOf rest
-  unfolding countOf
+  pub count-read : at < numberPlaces → getD values at 0 ≡ sectionCount rest
+  unfolding sectionCount
   count-read h = ap (λ j. getD values j 0) (sym (add-zero at)) ∙ number-read 0 (omega arith)
 
-  pub section-read : (width k : ℕ) {j : ℕ} → k < width * countOf rest → j ≡ at + (1 + k) → j < 1662 → getD values j 0 ≡ getD (sectionOf width rest) k 0
+  section-read : (width k : ℕ) {j : ℕ} → k < width * sectionCount rest → j ≡ at + (1 + k) → j < numberPlaces → getD values j 0 ≡ getD (sectionOf width rest) k 0
   unfolding sectionOf
   section-read width k {j} h q b =
       ap (λ i. getD values i 0) q
       ∙ number-read (1 + k) (omega arith)
-      ∙ sym (getD-take (width * countOf rest) (drop 1 rest) k 0 h ∙ getD-drop 1 rest k 0)
+      ∙ sym (getD-take (width * sectionCount rest) (drop 1 rest) k 0 h ∙ getD-drop 1 rest k 0)
 
-  module _ {limits : ℕ → Bool} {width : ℕ} (s : SectionFits limits width rest) (room : at + width * countOf rest < 1662) where
-    pub field-read : (k i : ℕ) {j : ℕ} → k < width → i < countOf rest → j ≡ at + 1 + k + width * i → getD values j 0 ≡ getD (field width k (sectionOf width rest)) i 0
+  module _ {limits : ℕ → Bool} {width : ℕ} (s : SectionFits limits width rest) (room : at + width * sectionCount rest < numberPlaces) where
+    field-read : (k i : ℕ) {j : ℕ} → k < width → i < sectionCount rest → j ≡ at + 1 + k + width * i → getD values j 0 ≡ getD (field width k (sectionOf width rest)) i 0
     field-read k i {j} h lt q =
-        let most : width * suc i ≤ width * countOf rest = mul-le-mul-left width lt in
+        let most : width * suc i ≤ width * sectionCount rest = mul-le-mul-left width lt in
         section-read width (width * i + k) {j = j} (omega arith) (omega arith) (omega arith)
         ∙ sym (getD-field width k (sectionOf width rest) i (omega (arith, length-field k (omega arith) s)))
 
-    pub copied-field : (m k : ℕ) {from n : ℕ} → k < width → from ≡ at + 1 + k → n ≡ countOf rest → fieldCopy values from width n (replicate m 0) ≡ padded m 0 (field width k (sectionOf width rest))
+    copied-field : (m k : ℕ) {from n : ℕ} → k < width → from ≡ at + 1 + k → n ≡ sectionCount rest → fieldCopy values from width n (replicate m 0) ≡ padded m 0 (field width k (sectionOf width rest))
     copied-field m k {from} {n} h q c =
-        let long : length (field width k (sectionOf width rest)) ≡ countOf rest = length-field k (omega arith) s in
+        let long : length (field width k (sectionOf width rest)) ≡ sectionCount rest = length-field k (omega arith) s in
         fill-padded 0 (λ i. getD values (from + width * i) 0) (field width k (sectionOf width rest))
         (λ i lt. field-read k i h (omega arith) (omega arith)) n m (long ∙ sym c)
 
-  module _ {limits : ℕ → Bool} (s : SectionFits limits 1 rest) (room : at + countOf rest < 1662) where
-    pub copied-section : (m : ℕ) {from n : ℕ} → from ≡ at + 1 → n ≡ countOf rest → fieldCopy values from 1 n (replicate m 0) ≡ padded m 0 (sectionOf 1 rest)
+  module _ {limits : ℕ → Bool} (s : SectionFits limits 1 rest) (room : at + sectionCount rest < numberPlaces) where
+    copied-section : (m : ℕ) {from n : ℕ} → from ≡ at + 1 → n ≡ sectionCount rest → fieldCopy values from 1 n (replicate m 0) ≡ padded m 0 (sectionOf 1 rest)
     copied-section m {from} {n} q c =
-        let long : length (sectionOf 1 rest) ≡ 1 * countOf rest = length-section s in
+        let long : length (sectionOf 1 rest) ≡ 1 * sectionCount rest = length-section s in
         fill-padded 0 (λ i. getD values (from + 1 * i) 0) (sectionOf 1 rest)
         (λ i lt. section-read 1 i (omega arith) (omega arith) (omega arith)) n m (omega arith)
 
@@ -63,7 +64,7 @@ first-two (a ∷ []) = refl
 first-two (a ∷ b ∷ l) = refl
 
 -- the place of a section's count, from the place of the one before it
-next-place : (ns rest : List ℕ) (width at next : ℕ) → rest ≡ drop at ns → restOf width rest ≡ drop next ns → 1 ≤ length (restOf width rest) → next ≡ at + 1 + width * countOf rest
+next-place : (ns rest : List ℕ) (width at next : ℕ) → rest ≡ drop at ns → restOf width rest ≡ drop next ns → 1 ≤ length (restOf width rest) → next ≡ at + 1 + width * sectionCount rest
 next-place ns rest width at next e q h =
     omega (arith, length-rest width rest, ap length e, ap length q, length-drop at ns, length-drop next ns)
 
@@ -74,11 +75,11 @@ pub record Places (layout : Layout) : Type 0 where
   pub pumping : layout .pumping ≤ 160
 
 pub record Counts (values : List ℕ) (layout : Layout) (ns : List ℕ) : Type 0 where
-  pub layers : getD values 0 0 ≡ countOf ns
-  pub columns : getD values (layout .columns) 0 ≡ countOf (fromColumns ns)
-  pub well : getD values (layout .well) 0 ≡ countOf (fromWell ns)
-  pub loss : getD values (layout .loss) 0 ≡ countOf (fromLoss ns)
-  pub entries : getD values (layout .pumping) 0 ≡ countOf (fromPumping ns)
+  pub layers : getD values 0 0 ≡ sectionCount ns
+  pub columns : getD values (layout .columns) 0 ≡ sectionCount (fromColumns ns)
+  pub well : getD values (layout .well) 0 ≡ sectionCount (fromWell ns)
+  pub loss : getD values (layout .loss) 0 ≡ sectionCount (fromLoss ns)
+  pub entries : getD values (layout .pumping) 0 ≡ sectionCount (fromPumping ns)
 
 module _ {values ns : List ℕ} {layout : Layout} (r : Reads values layout ns) where
   pub form : Form ns
@@ -89,10 +90,10 @@ module _ {values ns : List ℕ} {layout : Layout} (r : Reads values layout ns) w
   places =
       let f = form in
       let m = counts-most form in
-      let c : layout .columns ≡ 0 + 1 + 5 * countOf ns = next-place ns ns 5 0 (layout .columns) refl (r .columns) (omega arith) in
-      let w : layout .well ≡ layout .columns + 1 + 1 * countOf (fromColumns ns) = next-place ns (fromColumns ns) 1 (layout .columns) (layout .well) (r .columns) (r .well) (omega arith) in
-      let l : layout .loss ≡ layout .well + 1 + 1 * countOf (fromWell ns) = next-place ns (fromWell ns) 1 (layout .well) (layout .loss) (r .well) (r .loss) (omega arith) in
-      let p : layout .pumping ≡ layout .loss + 1 + 1 * countOf (fromLoss ns) = next-place ns (fromLoss ns) 1 (layout .loss) (layout .pumping) (r .loss) (r .pumping) (omega arith) in
+      let c : layout .columns ≡ 0 + 1 + 5 * sectionCount ns = next-place ns ns 5 0 (layout .columns) refl (r .columns) (omega arith) in
+      let w : layout .well ≡ layout .columns + 1 + 1 * sectionCount (fromColumns ns) = next-place ns (fromColumns ns) 1 (layout .columns) (layout .well) (r .columns) (r .well) (omega arith) in
+      let l : layout .loss ≡ layout .well + 1 + 1 * sectionCount (fromWell ns) = next-place ns (fromWell ns) 1 (layout .well) (layout .loss) (r .well) (r .loss) (omega arith) in
+      let p : layout .pumping ≡ layout .loss + 1 + 1 * sectionCount (fromLoss ns) = next-place ns (fromLoss ns) 1 (layout .loss) (layout .pumping) (r .loss) (r .pumping) (omega arith) in
       record { columns = omega arith; well = omega arith; loss = omega arith; pumping = omega arith }
 
   pub counts-read : Counts values layout ns
@@ -130,7 +131,7 @@ module _ {values ns : List ℕ} {layout : Layout} (r : Reads values layout ns) w
       let m = counts-most form in
       copied-field ns 0 (r .held) refl (form .layers) (omega arith) 20 k h refl (counts-read .layers)
 
-  section-field : {limits : ℕ → Bool} {rest : List ℕ} (at : ℕ) → rest ≡ drop at ns → SectionFits limits 1 rest → countOf rest ≤ 50 → at ≤ 157 → sectionCopy values at ≡ padded 50 0 (sectionOf 1 rest)
+  section-field : {limits : ℕ → Bool} {rest : List ℕ} (at : ℕ) → rest ≡ drop at ns → SectionFits limits 1 rest → sectionCount rest ≤ 50 → at ≤ 157 → sectionCopy values at ≡ padded 50 0 (sectionOf 1 rest)
   section-field at e s h near = copied-section ns at (r .held) e s (omega arith) 50 refl (count-read ns at (r .held) e (omega arith))
 
   -- the site, from the copies of its sections' numbers
@@ -150,12 +151,12 @@ module _ {values ns : List ℕ} {layout : Layout} (r : Reads values layout ns) w
         storage = storage;
         columns = getD values (layout .columns) 0;
         radii = radii;
-        radius = getD well 0 0;
-        area = getD well 1 0;
+        «well_radius» = getD well 0 0;
+        «water_area» = getD well 1 0;
         intake = getD well 2 0;
         friction = getD well 3 0;
-        coefficients = getD values (layout .loss) 0;
-        loss = getD losses 0 0 ∷ getD losses 1 0 ∷ [];
+        «loss_count» = getD values (layout .loss) 0;
+        «loss_coefficients» = getD losses 0 0 ∷ getD losses 1 0 ∷ [];
       })
       (siteOf ns)
   unfolding siteOf

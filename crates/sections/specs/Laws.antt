@@ -7,29 +7,27 @@
 --     getD-field        the number at place k of record i
 --     between-most      a number between lo and hi is at most hi
 --     counts-hold       the counts of siteOf ns are within their limits; counts-most: each is at most what Most says
---     entries-most      at most 500 pumping entries; numbers-most: at most 1,661 numbers
--- Assumes nothing.
+--     entries-most      how many pumping entries there are at most
 use mathlib.Core.Path.{_≡_, refl, ap, _∙_}
 use mathlib.Core.Bool.{Bool, true}
 use mathlib.Core.List.{List, _++_}
 use Prim.Native.Nat.{ℕ, _+_, _-_, _*_, _/_, _≤_, _<_}
 use native.Mathlib.Nat.{zero-add, mul-div-cancel-left}
 use native.Mathlib.Omega.{arith}
-use lib.Dec.{leb}
 use lib.ListN.{length, getD, drop, length-drop, length-map}
 use lib.Seq.{length-take-le}
 use borrow.Author.Tests.{ltb-false, leb-true, eqb-true, not-false}
-use Rattle.laws.specs.All.{and-right}
-use Rattle.laws.specs.Every.{every}
-use Rattle.laws.specs.Refusal.{first, passed, numbered}
-use Rattle.laws.specs.Sums.{range, length-range, getD-map-range}
-use Rattle.site.specs.Limits.{between, layerCount, columnCount, coefficientCount}
+use Rattle.laws.specs.Lists.{every, first, range}
+use Rattle.laws.specs.Refusal.{passed, numbered}
+use Rattle.laws.specs.Sums.{length-range, getD-map-range}
+use Rattle.limits.specs.Limits.{between, layerPlaces, columnPlaces, coefficientPlaces, entryLimit, layerCount, columnCount, coefficientCount, wellCount, entryCount}
 use Rattle.site.specs.Site.{countsHold}
-use Rattle.sections.specs.Sections.{layerWidth, entryWidth, wellCount, entryCount, countOf, sectionOf, restOf, sectionTests, fromColumns, fromWell, fromLoss, fromPumping, leftOver, formTests, field, siteOf, entriesOf}
+use Rattle.site.specs.Laws.{within}
+use Rattle.sections.specs.Sections.{layerWidth, entryWidth, sectionCount, sectionOf, restOf, sectionTests, fromColumns, fromWell, fromLoss, fromPumping, leftOver, formTests, field, siteOf, entriesOf}
 
 pub record SectionFits (limits : ℕ → Bool) (width : ℕ) (l : List ℕ) : Type 0 where
-  pub count : limits (countOf l) ≡ true
-  pub numbers : 1 + width * countOf l ≤ length l
+  pub count : limits (sectionCount l) ≡ true
+  pub numbers : 1 + width * sectionCount l ≤ length l
 
 pub record Form (ns : List ℕ) : Type 0 where
   pub layers : SectionFits layerCount layerWidth ns
@@ -68,19 +66,19 @@ form-passed ns e =
       whole = ltb-false 0 (length (leftOver ns)) (passed _ 0 _ (p₅ .1) .0);
     }
 
-pub length-rest : (width : ℕ) (l : List ℕ) → length (restOf width l) ≡ length l - (1 + width * countOf l)
+pub length-rest : (width : ℕ) (l : List ℕ) → length (restOf width l) ≡ length l - (1 + width * sectionCount l)
 unfolding restOf
-length-rest width l = length-drop (width * countOf l) (drop 1 l) ∙ omega (arith, length-drop 1 l)
+length-rest width l = length-drop (width * sectionCount l) (drop 1 l) ∙ omega (arith, length-drop 1 l)
 
-pub length-section : {limits : ℕ → Bool} {width : ℕ} {l : List ℕ} → SectionFits limits width l → length (sectionOf width l) ≡ width * countOf l
+pub length-section : {limits : ℕ → Bool} {width : ℕ} {l : List ℕ} → SectionFits limits width l → length (sectionOf width l) ≡ width * sectionCount l
 unfolding sectionOf
-length-section {limits} {width} {l} s = length-take-le (width * countOf l) (drop 1 l) (omega (arith, length-drop 1 l))
+length-section {limits} {width} {l} s = length-take-le (width * sectionCount l) (drop 1 l) (omega (arith, length-drop 1 l))
 
-pub length-field : {limits : ℕ → Bool} {width : ℕ} {l : List ℕ} (k : ℕ) → 0 < width → SectionFits limits width l → length (field width k (sectionOf width l)) ≡ countOf l
+pub length-field : {limits : ℕ → Bool} {width : ℕ} {l : List ℕ} (k : ℕ) → 0 < width → SectionFits limits width l → length (field width k (sectionOf width l)) ≡ sectionCount l
 unfolding field
 length-field {limits} {width} {l} k h s =
     length-map (range 0 (length (sectionOf width l) / width)) _ ∙ length-range 0 (length (sectionOf width l) / width)
-    ∙ rw (length-section s) (mul-div-cancel-left (countOf l) h)
+    ∙ rw (length-section s) (mul-div-cancel-left (sectionCount l) h)
 
 pub getD-field : (width k : ℕ) (l : List ℕ) (i : ℕ) → i < length (field width k l) → getD (field width k l) i 0 ≡ getD l (width * i + k) 0
 unfolding field
@@ -91,14 +89,14 @@ getD-field width k l i h =
 
 -- the most that each count can be
 pub record Most (ns : List ℕ) : Type 0 where
-  pub layers : countOf ns ≤ 20
-  pub columns : countOf (fromColumns ns) ≤ 50
-  pub well : countOf (fromWell ns) ≡ 4
-  pub loss : countOf (fromLoss ns) ≤ 2
-  pub entries : countOf (fromPumping ns) ≤ 500
+  pub layers : sectionCount ns ≤ layerPlaces
+  pub columns : sectionCount (fromColumns ns) ≤ columnPlaces
+  pub well : sectionCount (fromWell ns) ≡ 4
+  pub loss : sectionCount (fromLoss ns) ≤ coefficientPlaces
+  pub entries : sectionCount (fromPumping ns) ≤ entryLimit
 
 pub between-most : (lo hi n : ℕ) → between lo hi n ≡ true → n ≤ hi
-between-most lo hi n e = leb-true n hi (and-right (leb lo n) (leb n hi) e)
+between-most lo hi n e = within lo hi n e .most
 
 module _ {ns : List ℕ} (f : Form ns) where
   pub counts-hold : countsHold (siteOf ns) ≡ true
@@ -107,27 +105,13 @@ module _ {ns : List ℕ} (f : Form ns) where
 
   pub counts-most : Most ns
   counts-most = record {
-    layers = between-most 2 20 (countOf ns) (f .layers .count);
-    columns = between-most 2 50 (countOf (fromColumns ns)) (f .columns .count);
-    well = eqb-true (countOf (fromWell ns)) 4 (f .well .count);
-    loss = leb-true (countOf (fromLoss ns)) 2 (f .loss .count);
-    entries = leb-true (countOf (fromPumping ns)) 500 (f .pumping .count);
+    layers = between-most 2 layerPlaces (sectionCount ns) (f .layers .count);
+    columns = between-most 2 columnPlaces (sectionCount (fromColumns ns)) (f .columns .count);
+    well = eqb-true (sectionCount (fromWell ns)) 4 (f .well .count);
+    loss = leb-true (sectionCount (fromLoss ns)) coefficientPlaces (f .loss .count);
+    entries = leb-true (sectionCount (fromPumping ns)) entryLimit (f .pumping .count);
   }
 
-  pub entries-most : entriesOf ns ≤ 500
+  pub entries-most : entriesOf ns ≤ entryLimit
   unfolding entriesOf
   entries-most = counts-most .entries
-
-  pub numbers-most : length ns ≤ 1661
-  unfolding fromColumns fromWell fromLoss fromPumping leftOver
-  numbers-most =
-      omega (
-        arith,
-        f,
-        counts-most,
-        length-rest layerWidth ns,
-        length-rest 1 (fromColumns ns),
-        length-rest 1 (fromWell ns),
-        length-rest 1 (fromLoss ns),
-        length-rest entryWidth (fromPumping ns),
-      )

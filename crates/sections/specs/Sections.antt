@@ -1,15 +1,12 @@
 -- The five sections of a scenario's numbers (document 01, 'The scenario text'), and the refusals 1, 2 and 3 that they can bring about.
--- Assumes nothing.
 use mathlib.Core.Bool.{Bool, not}
 use mathlib.Core.List.{List, [], _∷_, _++_, map}
 use Prim.Native.Nat.{ℕ, _+_, _*_, _/_}
-use lib.Dec.{leb, ltb, eqb}
+use lib.Dec.{ltb, eqb}
 use lib.ListN.{length, getD, take, drop}
-use Rattle.laws.specs.Every.{every}
-use Rattle.laws.specs.Padded.{padded}
-use Rattle.laws.specs.Sums.{range}
+use Rattle.laws.specs.Lists.{every, padded, range}
 use Rattle.site.specs.declared.Site.{Site}
-use Rattle.site.specs.Limits.{between, layerCount, columnCount, coefficientCount}
+use Rattle.limits.specs.Limits.{layerPlaces, columnPlaces, coefficientPlaces, layerCount, columnCount, coefficientCount, wellCount, entryCount, repeatLimits}
 use Rattle.sections.specs.declared.Entry.{Entry}
 
 -- how many numbers a layer has, and how many a pumping entry; a record of the other sections is one number
@@ -19,33 +16,21 @@ layerWidth = 5
 abbrev pub entryWidth : ℕ
 entryWidth = 3
 
--- the well's section has exactly four numbers
-abbrev pub wellCount : ℕ → Bool
-wellCount n = eqb n 4
-
--- pumping entries
-abbrev pub entryCount : ℕ → Bool
-entryCount n = leb n 500
-
--- repeats of a pumping entry
-abbrev pub repeatLimits : ℕ → Bool
-repeatLimits n = between 1 1000000 n
-
 -- ---- a section at the head of a list: its count, then `width` numbers for each record
 -- the count; the section's numbers; what follows them
-unfoldable pub countOf : List ℕ → ℕ
-countOf ns = getD ns 0 0
+unfoldable pub sectionCount : List ℕ → ℕ
+sectionCount ns = getD ns 0 0
 
 unfoldable pub sectionOf : ℕ → List ℕ → List ℕ
-sectionOf width ns = take (width * countOf ns) (drop 1 ns)
+sectionOf width ns = take (width * sectionCount ns) (drop 1 ns)
 
 unfoldable pub restOf : ℕ → List ℕ → List ℕ
-restOf width ns = drop (width * countOf ns) (drop 1 ns)
+restOf width ns = drop (width * sectionCount ns) (drop 1 ns)
 
 -- its count is missing, the count is outside its limits, its numbers are missing
 unfoldable pub sectionTests : (ℕ → Bool) → ℕ → List ℕ → List (Bool × ℕ)
 sectionTests limits width ns =
-    (eqb (length ns) 0, 1) ∷ (not (limits (countOf ns)), 2) ∷ (ltb (length ns) (1 + width * countOf ns), 1) ∷ []
+    (eqb (length ns) 0, 1) ∷ (not (limits (sectionCount ns)), 2) ∷ (ltb (length ns) (1 + width * sectionCount ns), 1) ∷ []
 
 -- ---- the five sections of a scenario's numbers: each list begins with its section's count
 unfoldable pub fromColumns : List ℕ → List ℕ
@@ -81,25 +66,25 @@ field width k ns = map (λ i. getD ns (width * i + k) 0) (range 0 (length ns / w
 -- the numbers of the first four sections
 unfoldable pub siteOf : List ℕ → Site
 siteOf ns = record {
-  layers = countOf ns;
-  thickness = padded 20 0 (field layerWidth 0 (sectionOf layerWidth ns));
-  screened = padded 20 0 (field layerWidth 1 (sectionOf layerWidth ns));
-  kh = padded 20 0 (field layerWidth 2 (sectionOf layerWidth ns));
-  kv = padded 20 0 (field layerWidth 3 (sectionOf layerWidth ns));
-  storage = padded 20 0 (field layerWidth 4 (sectionOf layerWidth ns));
-  columns = countOf (fromColumns ns);
-  radii = padded 50 0 (sectionOf 1 (fromColumns ns));
-  radius = getD (sectionOf 1 (fromWell ns)) 0 0;
-  area = getD (sectionOf 1 (fromWell ns)) 1 0;
+  layers = sectionCount ns;
+  thickness = padded layerPlaces 0 (field layerWidth 0 (sectionOf layerWidth ns));
+  screened = padded layerPlaces 0 (field layerWidth 1 (sectionOf layerWidth ns));
+  kh = padded layerPlaces 0 (field layerWidth 2 (sectionOf layerWidth ns));
+  kv = padded layerPlaces 0 (field layerWidth 3 (sectionOf layerWidth ns));
+  storage = padded layerPlaces 0 (field layerWidth 4 (sectionOf layerWidth ns));
+  columns = sectionCount (fromColumns ns);
+  radii = padded columnPlaces 0 (sectionOf 1 (fromColumns ns));
+  «well_radius» = getD (sectionOf 1 (fromWell ns)) 0 0;
+  «water_area» = getD (sectionOf 1 (fromWell ns)) 1 0;
   intake = getD (sectionOf 1 (fromWell ns)) 2 0;
   friction = getD (sectionOf 1 (fromWell ns)) 3 0;
-  coefficients = countOf (fromLoss ns);
-  loss = padded 2 0 (sectionOf 1 (fromLoss ns));
+  «loss_count» = sectionCount (fromLoss ns);
+  «loss_coefficients» = padded coefficientPlaces 0 (sectionOf 1 (fromLoss ns));
 }
 
 -- how many entries, and entry i, counted from 0
 unfoldable pub entriesOf : List ℕ → ℕ
-entriesOf ns = countOf (fromPumping ns)
+entriesOf ns = sectionCount (fromPumping ns)
 
 unfoldable pub entryAt : List ℕ → ℕ → Entry
 entryAt ns i = record {

@@ -1,16 +1,21 @@
 // The five sections of a scenario's numbers: their counts and lengths are judged, and what they hold is read.
-// The numbers stand in an array of 1,662 in the order of the text, with 0 after the last; a scenario has at most 1,661,
-// and of a longer text the array holds the first 1,662.
+// The numbers stand in an array in the order of the text, with 0 after the last: it has one place more than a scenario has numbers, and of a
+// longer text it holds the first.
 ghost use mathlib.Core.Path.{_≡_};
 ghost use mathlib.Core.Bool.{Bool, true};
 ghost use mathlib.Core.List.{List, [], _∷_, _++_};
 ghost use Prim.Native.Nat.{ℕ, _≤_, _<_};
 ghost use lib.Dec.{ltb};
 ghost use lib.ListN.{getD, length};
-ghost use Rattle.laws.specs.Padded.{padded};
-ghost use Rattle.laws.specs.Refusal.{first};
-ghost use Rattle.sections.specs.Sections.{entryCount, repeatLimits, formTests, siteOf, entriesOf, entryAt, repeatsHold};
+ghost use Rattle.laws.specs.Lists.{padded, first};
+ghost use Rattle.limits.specs.Limits.{layerPlaces, columnPlaces, numberPlaces, entryLimit, entryCount, repeatLimits};
+ghost use Rattle.sections.specs.Sections.{layerWidth, formTests, siteOf, entriesOf, entryAt, repeatsHold};
 ghost use Rattle.sections.specs.Reading.{Reads, Section, Passed, fieldCopy, sectionCopy, layerCopy};
+use limits::COLUMN_PLACES;
+use limits::ENTRY_LIMIT;
+use limits::LAYER_PLACES;
+use limits::NUMBER_PLACES;
+use limits::REPEAT_LIMIT;
 use site::Site;
 
 // How many numbers a layer has, and how many a pumping entry; a record of the other sections is one number.
@@ -19,7 +24,7 @@ const LAYER_WIDTH: usize = 5;
 const ENTRY_WIDTH: usize = 3;
 
 // How far the sections have been judged: the first refusal, 0 if there is none yet; and, where there is none, the place of the next section's count.
-struct Judged {
+struct Reached {
     refusal: u64,
     next: usize,
 }
@@ -44,19 +49,19 @@ pub struct Entry {
 fn entry_count(n: u64) -> bool
     ensures { λ r. ⌜ r ≡ entryCount n ⌝ }
 {
-    n <= 500
+    n <= ENTRY_LIMIT
 }
 
 fn repeat_limits(n: u64) -> bool
     ensures { λ r. ⌜ r ≡ repeatLimits n ⌝ }
 {
-    1 <= n && n <= 1000000
+    1 <= n && n <= REPEAT_LIMIT
 }
 
 // The next section, of `count` records of `width` numbers each: `within` says whether the count is within its limits.
 // No count stands past place 160: the sections before the pumping entries have at most 20 × 5, 50, 4 and 2 numbers.
-fn judge(earlier: Judged, total: usize, width: usize, count: u64, within: bool) -> Judged
-    requires { ⌜ (earlier .next ≤ 160) × (width ≤ 5) × (within ≡ true → count ≤ 500) ⌝ }
+fn judge(earlier: Reached, total: usize, width: usize, count: u64, within: bool) -> Reached
+    requires { ⌜ (earlier .next ≤ 160) × (width ≤ layerWidth) × (within ≡ true → count ≤ entryLimit) ⌝ }
     ensures { λ r. ⌜ Section total width count within earlier r ⌝ }
 {
     if earlier.refusal != 0 {
@@ -64,32 +69,32 @@ fn judge(earlier: Judged, total: usize, width: usize, count: u64, within: bool) 
     }
     let at = earlier.next;
     if total <= at {
-        return Judged {
+        return Reached {
             refusal: 1,
             next: at,
         };
     }
     if !within {
-        return Judged {
+        return Reached {
             refusal: 2,
             next: at,
         };
     }
     let size = width * (count as usize);
     if total - at <= size {
-        return Judged {
+        return Reached {
             refusal: 1,
             next: at,
         };
     }
-    Judged {
+    Reached {
         refusal: 0,
         next: at + 1 + size,
     }
 }
 
 // The refusal of all sections: numbers that are left over after the last bring about 1.
-fn finish(earlier: Judged, total: usize) -> u64
+fn finish(earlier: Reached, total: usize) -> u64
     ensures { λ r. ⌜ ((ns rest : List ℕ) (ts : List (Bool × ℕ)) → total ≡ length ns → Passed ns ts rest earlier → r ≡ first (ts ++ (ltb 0 (length rest), 1) ∷ [])) ⌝ }
 {
     if earlier.refusal != 0 {
@@ -99,10 +104,10 @@ fn finish(earlier: Judged, total: usize) -> u64
 }
 
 // The form of a text's numbers, of which there are `total`: one section after the other, each judged once.
-pub fn layout_of(total: usize, values: &[u64; 1662]) -> Layout
-    ensures { λ r. ⌜ ((ns : List ℕ) → now (values .entry) ≡ padded 1662 0 ns → total ≡ length ns → (r .refusal ≡ first (formTests ns)) × (r .refusal ≡ 0 → Reads (now (values .entry)) r ns)) ⌝ }
+pub fn layout_of(total: usize, values: &[u64; NUMBER_PLACES]) -> Layout
+    ensures { λ r. ⌜ ((ns : List ℕ) → now (values .entry) ≡ padded numberPlaces 0 ns → total ≡ length ns → (r .refusal ≡ first (formTests ns)) × (r .refusal ≡ 0 → Reads (now (values .entry)) r ns)) ⌝ }
 {
-    let start = Judged {
+    let start = Reached {
         refusal: 0,
         next: 0,
     };
@@ -137,8 +142,8 @@ pub fn layout_of(total: usize, values: &[u64; 1662]) -> Layout
 }
 
 // One number of each of n records of `width` numbers, the first of them at `from`.
-fn copy_field(values: &[u64; 1662], from: usize, width: usize, n: usize, out: &mut [u64])
-    requires { ⌜ (from ≤ 160) × (width ≤ 5) × (n ≤ 50) × (n ≤ length (now out)) ⌝ }
+fn copy_field(values: &[u64; NUMBER_PLACES], from: usize, width: usize, n: usize, out: &mut [u64])
+    requires { ⌜ (from ≤ 160) × (width ≤ layerWidth) × (n ≤ columnPlaces) × (n ≤ length (now out)) ⌝ }
     ensures { λ r. ⌜ now (out .exit) ≡ fieldCopy (now (values .entry)) from width n (now (out .entry)) ⌝ }
 {
     let mut i: usize = 0;
@@ -149,27 +154,27 @@ fn copy_field(values: &[u64; 1662], from: usize, width: usize, n: usize, out: &m
 }
 
 // Number k of each layer, counted from 0: thickness, screened, Kh, Kv, storage.
-fn layer_field(values: &[u64; 1662], k: usize) -> [u64; 20]
-    requires { ⌜ (k < 5) × (getD (now values) 0 0 ≤ 20) ⌝ }
+fn layer_field(values: &[u64; NUMBER_PLACES], k: usize) -> [u64; LAYER_PLACES]
+    requires { ⌜ (k < layerWidth) × (getD (now values) 0 0 ≤ layerPlaces) ⌝ }
     ensures { λ r. ⌜ r ≡ layerCopy (now (values .entry)) k ⌝ }
 {
-    let mut out: [u64; 20] = [0; 20];
+    let mut out: [u64; LAYER_PLACES] = [0; LAYER_PLACES];
     copy_field(values, 1 + k, LAYER_WIDTH, values[0] as usize, &mut out);
     out
 }
 
 // The numbers of the section whose count stands at `at`, one a record.
-fn section_of(values: &[u64; 1662], at: usize) -> [u64; 50]
-    requires { ⌜ (at < 160) × (getD (now values) at 0 ≤ 50) ⌝ }
+fn section_of(values: &[u64; NUMBER_PLACES], at: usize) -> [u64; COLUMN_PLACES]
+    requires { ⌜ (at < 160) × (getD (now values) at 0 ≤ columnPlaces) ⌝ }
     ensures { λ r. ⌜ r ≡ sectionCopy (now (values .entry)) at ⌝ }
 {
-    let mut out: [u64; 50] = [0; 50];
+    let mut out: [u64; COLUMN_PLACES] = [0; COLUMN_PLACES];
     copy_field(values, at + 1, 1, values[at] as usize, &mut out);
     out
 }
 
 // The numbers of the first four sections.
-pub fn site_of(values: &[u64; 1662], layout: Layout) -> Site
+pub fn site_of(values: &[u64; NUMBER_PLACES], layout: Layout) -> Site
     requires { ⌜ ((ns : List ℕ) × Reads (now values) layout ns) ⌝ }
     ensures { λ r. ⌜ ((ns : List ℕ) → Reads (now (values .entry)) layout ns → r ≡ siteOf ns) ⌝ }
 {
@@ -192,17 +197,17 @@ pub fn site_of(values: &[u64; 1662], layout: Layout) -> Site
         storage,
         columns: values[columns_at],
         radii,
-        radius: well[0],
-        area: well[1],
+        well_radius: well[0],
+        water_area: well[1],
         intake: well[2],
         friction: well[3],
-        coefficients: values[loss_at],
-        loss: [losses[0], losses[1]],
+        loss_count: values[loss_at],
+        loss_coefficients: [losses[0], losses[1]],
     }
 }
 
 // How many pumping entries.
-pub fn entries(values: &[u64; 1662], layout: Layout) -> u64
+pub fn entries(values: &[u64; NUMBER_PLACES], layout: Layout) -> u64
     requires { ⌜ ((ns : List ℕ) × Reads (now values) layout ns) ⌝ }
     ensures { λ r. ⌜ ((ns : List ℕ) → Reads (now (values .entry)) layout ns → r ≡ entriesOf ns) ⌝ }
 {
@@ -211,7 +216,7 @@ pub fn entries(values: &[u64; 1662], layout: Layout) -> u64
 }
 
 // Pumping entry i, counted from 0.
-pub fn entry_at(values: &[u64; 1662], layout: Layout, i: usize) -> Entry
+pub fn entry_at(values: &[u64; NUMBER_PLACES], layout: Layout, i: usize) -> Entry
     requires { ⌜ ((ns : List ℕ) × Reads (now values) layout ns × (i < entriesOf ns)) ⌝ }
     ensures { λ r. ⌜ ((ns : List ℕ) → Reads (now (values .entry)) layout ns → r ≡ entryAt ns i) ⌝ }
 {
@@ -224,7 +229,7 @@ pub fn entry_at(values: &[u64; 1662], layout: Layout, i: usize) -> Entry
 }
 
 // Whether the repeats of each pumping entry are within their limits.
-pub fn repeats_hold(values: &[u64; 1662], layout: Layout) -> bool
+pub fn repeats_hold(values: &[u64; NUMBER_PLACES], layout: Layout) -> bool
     requires { ⌜ ((ns : List ℕ) × Reads (now values) layout ns) ⌝ }
     ensures { λ r. ⌜ ((ns : List ℕ) → Reads (now (values .entry)) layout ns → r ≡ repeatsHold ns) ⌝ }
 {

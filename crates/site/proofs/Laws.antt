@@ -1,5 +1,4 @@
 -- Laws that this crate's proofs share.
--- Assumes nothing.
 use mathlib.Core.Path.{_≡_, refl, sym, _∙_}
 use mathlib.Core.Bool.{Bool, true, false, cond, _&&_, not}
 use mathlib.Core.List.{List}
@@ -9,7 +8,7 @@ use native.Mathlib.Omega.{arith}
 use borrow.Author.Tests.{not-true, not-false}
 use lib.Dec.{leb, ltb}
 use lib.ListN.{getD}
-use Rattle.site.specs.Limits.{yieldLimits, storageLimits, midsectionFactor}
+use Rattle.limits.specs.Limits.{yieldLimits, specificStorageLimits, midsectionFactor}
 use Rattle.site.specs.Site.{isScreened, midsection, layerTop, topmostScreened, storageHolds, columnRises}
 
 -- what a test that a loop makes says of the test that its callee's contract names
@@ -24,7 +23,7 @@ pub storage-first : (i x : ℕ) → i ≡ 0 → storageHolds i x ≡ yieldLimits
 unfolding storageHolds
 storage-first i x e = rw e
 
-pub storage-below : (i x : ℕ) → (i ≡ 0 → ⊥) → storageHolds i x ≡ storageLimits x
+pub storage-below : (i x : ℕ) → (i ≡ 0 → ⊥) → storageHolds i x ≡ specificStorageLimits x
 unfolding storageHolds
 storage-below zero x ne = absurd (ne refl)
 storage-below (suc i) x ne = refl

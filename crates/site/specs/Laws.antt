@@ -3,9 +3,8 @@
 --     counts-hold        Counts: how many layers, columns and coefficients there are
 --     numbers-hold       Numbers: the limits of each layer (LayerNumbers), radius, coefficient and of the well (WellNumbers)
 --     radii-hold         Rises: what rules 3 and 4 say of the radii on both sides of each face between columns
--- Assumes nothing.
 use mathlib.Core.Path.{_≡_}
-use mathlib.Core.Bool.{Bool, true, _&&_}
+use mathlib.Core.Bool.{true, _&&_}
 use mathlib.Core.List.{List}
 use Prim.Native.Nat.{ℕ, zero, suc, _*_, _≤_, _<_}
 use native.Mathlib.Omega.{arith}
@@ -13,18 +12,10 @@ use borrow.Author.Tests.{leb-true, ltb-true}
 use lib.Dec.{leb, ltb}
 use lib.ListN.{getD}
 use Rattle.laws.specs.All.{all-at, and-left, and-right}
+use Rattle.laws.specs.Rows.{three-hold, four-hold}
 use Rattle.site.specs.declared.Site.{Site}
-use Rattle.site.specs.Limits.{between, layerCount, columnCount, coefficientCount, thicknessLimits, screenedLimits, conductivityLimits, wellRadiusLimits, waterAreaLimits, intakeLimits, frictionLimits}
+use Rattle.limits.specs.Limits.{between, layerPlaces, columnPlaces, coefficientPlaces, midsectionFactor, layerCount, columnCount, coefficientCount, thicknessLimits, screenedLimits, conductivityLimits, wellRadiusLimits, waterAreaLimits, intakeLimits, frictionLimits}
 use Rattle.site.specs.Site.{radiiOf, midsection, countsHold, storageHolds, layerHolds, layerAt, layersHold, columnsHold, wellHolds, screenLossHolds, numbersHold, columnRises, radiiHold}
-
--- ---- a chain of tests that holds, taken apart
-three : (a b c : Bool) → (a && b && c) ≡ true → (a ≡ true) × (b ≡ true) × (c ≡ true)
-three a b c e = let ab : (a && b) ≡ true = and-left (a && b) c e in (and-left a b ab, and-right a b ab, and-right (a && b) c e)
-
-four : (a b c d : Bool) → (a && b && c && d) ≡ true → (a ≡ true) × (b ≡ true) × (c ≡ true) × (d ≡ true)
-four a b c d e =
-    let abc : (a ≡ true) × (b ≡ true) × (c ≡ true) = three a b c (and-left (a && b && c) d e) in
-    (abc .0, abc .1, abc .2, and-right (a && b && c) d e)
 
 -- ---- a number within its limits
 pub record Within (lo hi n : ℕ) : Type 0 where
@@ -40,17 +31,17 @@ within lo hi n e = record {
 -- ---- counts
 pub record Counts (s : Site) : Type 0 where
   pub layers-least : 2 ≤ s .layers
-  pub layers-most : s .layers ≤ 20
+  pub layers-most : s .layers ≤ layerPlaces
   pub columns-least : 2 ≤ s .columns
-  pub columns-most : s .columns ≤ 50
-  pub coefficients-most : s .coefficients ≤ 2
+  pub columns-most : s .columns ≤ columnPlaces
+  pub coefficients-most : s .«loss_count» ≤ coefficientPlaces
 
 pub counts-hold : (s : Site) → countsHold s ≡ true → Counts s
 unfolding countsHold
 counts-hold s e =
-    let tests = three (layerCount (s .layers)) (columnCount (s .columns)) (coefficientCount (s .coefficients)) e in
-    let layers = within 2 20 (s .layers) (tests .0) in
-    let columns = within 2 50 (s .columns) (tests .1) in
+    let tests = three-hold (layerCount (s .layers)) (columnCount (s .columns)) (coefficientCount (s .«loss_count»)) e in
+    let layers = within 2 layerPlaces (s .layers) (tests .0) in
+    let columns = within 2 columnPlaces (s .columns) (tests .1) in
     record {
       layers-least = layers .least;
       layers-most = layers .most;
@@ -72,10 +63,10 @@ pub record LayerNumbers (s : Site) (i : ℕ) : Type 0 where
   pub storage-below-most : 1 ≤ i → getD (s .storage) i 0 ≤ 1000000
 
 pub record WellNumbers (s : Site) : Type 0 where
-  pub radius-least : 10 ≤ s .radius
-  pub radius-most : s .radius ≤ 5000
-  pub area-least : 1 ≤ s .area
-  pub area-most : s .area ≤ 1000000000
+  pub radius-least : 10 ≤ s .«well_radius»
+  pub radius-most : s .«well_radius» ≤ 5000
+  pub area-least : 1 ≤ s .«water_area»
+  pub area-most : s .«water_area» ≤ 1000000000
   pub intake-least : 1 ≤ s .intake
   pub intake-most : s .intake ≤ 1000000
   pub friction-most : s .friction ≤ 1000000
@@ -84,7 +75,7 @@ pub record Numbers (s : Site) : Type 0 where
   pub layer : (i : ℕ) → i < s .layers → LayerNumbers s i
   pub column : (j : ℕ) → j < s .columns → getD (s .radii) j 0 ≤ 2000000
   pub well : WellNumbers s
-  pub coefficient : (k : ℕ) → k < s .coefficients → getD (s .loss) k 0 ≤ 1000000000000
+  pub coefficient : (k : ℕ) → k < s .«loss_count» → getD (s .«loss_coefficients») k 0 ≤ 1000000000000
 
 record Storage (i x : ℕ) : Type 0 where
   least : 1 ≤ x
@@ -105,7 +96,7 @@ module _ (s : Site) where
       let kh = getD (s .kh) i 0 in
       let kv = getD (s .kv) i 0 in
       let rest = thicknessLimits b && screenedLimits x && conductivityLimits kh && conductivityLimits kv in
-      let tests = four (thicknessLimits b) (screenedLimits x) (conductivityLimits kh) (conductivityLimits kv) (and-left rest (storageHolds i (getD (s .storage) i 0)) e) in
+      let tests = four-hold (thicknessLimits b) (screenedLimits x) (conductivityLimits kh) (conductivityLimits kv) (and-left rest (storageHolds i (getD (s .storage) i 0)) e) in
       let thickness = within 1 1000000 b (tests .0) in
       let stored = storage i (getD (s .storage) i 0) (and-right rest (storageHolds i (getD (s .storage) i 0)) e) in
       record {
@@ -122,9 +113,9 @@ module _ (s : Site) where
   well-numbers : wellHolds s ≡ true → WellNumbers s
   unfolding wellHolds
   well-numbers e =
-      let tests = four (wellRadiusLimits (s .radius)) (waterAreaLimits (s .area)) (intakeLimits (s .intake)) (frictionLimits (s .friction)) e in
-      let radius = within 10 5000 (s .radius) (tests .0) in
-      let area = within 1 1000000000 (s .area) (tests .1) in
+      let tests = four-hold (wellRadiusLimits (s .«well_radius»)) (waterAreaLimits (s .«water_area»)) (intakeLimits (s .intake)) (frictionLimits (s .friction)) e in
+      let radius = within 10 5000 (s .«well_radius») (tests .0) in
+      let area = within 1 1000000000 (s .«water_area») (tests .1) in
       let intake = within 1 1000000 (s .intake) (tests .2) in
       record {
         radius-least = radius .least;
@@ -139,12 +130,12 @@ module _ (s : Site) where
   pub numbers-hold : numbersHold s ≡ true → Numbers s
   unfolding numbersHold
   numbers-hold e =
-      let tests = four (layersHold s) (columnsHold s) (wellHolds s) (screenLossHolds s) e in
+      let tests = four-hold (layersHold s) (columnsHold s) (wellHolds s) (screenLossHolds s) e in
       record {
         layer = λ i h. layer-numbers i (all-at _ (s .layers) i (tests .0) h);
         column = λ j h. leb-true _ _ (all-at _ (s .columns) j (tests .1) h);
         well = well-numbers (tests .2);
-        coefficient = λ k h. leb-true _ _ (all-at _ (s .coefficients) k (tests .3) h);
+        coefficient = λ k h. leb-true _ _ (all-at _ (s .«loss_count») k (tests .3) h);
       }
 
 -- ---- rule 4, at columns j and j + 1 (column 0 is the well): radii R_j and R_(j+1), twice the midsection radii u_j and u_(j+1)
@@ -154,7 +145,7 @@ pub record Rises (rs : List ℕ) (j : ℕ) : Type 0 where
   pub radius-most : getD rs (suc j) 0 ≤ 2000000
   pub midsection-least : 20 ≤ midsection rs j
   pub midsection-rises : midsection rs j < midsection rs (suc j)
-  pub midsection-near : midsection rs (suc j) ≤ 3 * midsection rs j
+  pub midsection-near : midsection rs (suc j) ≤ midsectionFactor * midsection rs j
   pub midsection-most : midsection rs (suc j) ≤ 4000000
 
 module _ (s : Site) (numbers : numbersHold s ≡ true) (radii : radiiHold s ≡ true) where
@@ -166,7 +157,7 @@ module _ (s : Site) (numbers : numbersHold s ≡ true) (radii : radiiHold s ≡ 
   unfolding columnRises
   radius-up j h = ltb-true _ _ (and-left (ltb (getD (radiiOf s) j 0) (getD (radiiOf s) (suc j) 0)) _ (rises j h))
 
-  near : (j : ℕ) → j < s .columns → midsection (radiiOf s) (suc j) ≤ 3 * midsection (radiiOf s) j
+  near : (j : ℕ) → j < s .columns → midsection (radiiOf s) (suc j) ≤ midsectionFactor * midsection (radiiOf s) j
   unfolding columnRises
   near j h = leb-true _ _ (and-right (ltb (getD (radiiOf s) j 0) (getD (radiiOf s) (suc j) 0)) _ (rises j h))
 

@@ -1,3 +1,3 @@
+pub mod Columns
 pub mod Laws
-pub mod Limits
 pub mod Site

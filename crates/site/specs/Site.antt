@@ -1,14 +1,12 @@
 -- The numbers of a scenario's first four sections, and what document 01 asks of them ('Who brings a refusal about', 3 to 5).
--- Layers are counted from 0 here, so that 01's layer 1 is layer 0; columns from 1, and column 0 stands for the well.
--- Assumes nothing.
 use mathlib.Core.Bool.{Bool, cond, _&&_, not}
 use mathlib.Core.List.{List, _∷_}
 use Prim.Native.Nat.{ℕ, zero, suc, _+_, _*_}
 use lib.Dec.{leb, ltb, eqb}
 use lib.ListN.{getD}
-use Rattle.laws.specs.All.{allBelow}
+use Rattle.laws.specs.Lists.{allBelow}
 use Rattle.site.specs.declared.Site.{Site}
-use Rattle.site.specs.Limits.{layerCount, columnCount, coefficientCount, thicknessLimits, screenedLimits, conductivityLimits, yieldLimits, storageLimits, radiusLimits, wellRadiusLimits, waterAreaLimits, intakeLimits, frictionLimits, coefficientLimits, midsectionFactor}
+use Rattle.limits.specs.Limits.{layerCount, columnCount, coefficientCount, thicknessLimits, screenedLimits, conductivityLimits, yieldLimits, specificStorageLimits, radiusLimits, wellRadiusLimits, waterAreaLimits, intakeLimits, frictionLimits, coefficientLimits, midsectionFactor}
 
 -- whether layer i is screened, by the layers' numbers 0 and 1
 unfoldable pub isScreened : List ℕ → ℕ → Bool
@@ -16,7 +14,7 @@ isScreened screened i = eqb (getD screened i 0) 1
 
 -- R_0, R_1, .. : the well's radius, then the outer radius of each column, mm
 abbrev pub radiiOf : Site → List ℕ
-radiiOf s = s .radius ∷ s .radii
+radiiOf s = s .«well_radius» ∷ s .radii
 
 -- u_j, mm, by those radii: twice the midsection radius of column j, and u_0 = 2R_0
 unfoldable pub midsection : List ℕ → ℕ → ℕ
@@ -35,13 +33,13 @@ topmostScreened screened (suc n) i = cond (isScreened screened i) i (topmostScre
 
 -- ---- counts (2)
 unfoldable pub countsHold : Site → Bool
-countsHold s = layerCount (s .layers) && columnCount (s .columns) && coefficientCount (s .coefficients)
+countsHold s = layerCount (s .layers) && columnCount (s .columns) && coefficientCount (s .«loss_count»)
 
 -- ---- limits (3)
 -- storage is specific yield in layer 1, specific storage below it
 unfoldable pub storageHolds : ℕ → ℕ → Bool
 storageHolds zero x = yieldLimits x
-storageHolds (suc i) x = storageLimits x
+storageHolds (suc i) x = specificStorageLimits x
 
 -- layer i with its thickness, screen, Kh, Kv and storage
 unfoldable pub layerHolds : ℕ → ℕ → ℕ → ℕ → ℕ → ℕ → Bool
@@ -58,15 +56,15 @@ abbrev pub columnsHold : Site → Bool
 columnsHold s = allBelow (s .columns) (λ j. radiusLimits (getD (s .radii) j 0))
 
 unfoldable pub wellHolds : Site → Bool
-wellHolds s = wellRadiusLimits (s .radius) && waterAreaLimits (s .area) && intakeLimits (s .intake) && frictionLimits (s .friction)
+wellHolds s = wellRadiusLimits (s .«well_radius») && waterAreaLimits (s .«water_area») && intakeLimits (s .intake) && frictionLimits (s .friction)
 
 abbrev pub screenLossHolds : Site → Bool
-screenLossHolds s = allBelow (s .coefficients) (λ k. coefficientLimits (getD (s .loss) k 0))
+screenLossHolds s = allBelow (s .«loss_count») (λ k. coefficientLimits (getD (s .«loss_coefficients») k 0))
 
 unfoldable pub numbersHold : Site → Bool
 numbersHold s = layersHold s && columnsHold s && wellHolds s && screenLossHolds s
 
--- ---- rule 4: the radii rise, and u_(j+1) is at most 3×u_j, from the well to the last column
+-- ---- rule 4: the radii rise, and u_(j+1) is at most so many times u_j, from the well to the last column
 unfoldable pub columnRises : List ℕ → ℕ → Bool
 columnRises rs j = ltb (getD rs j 0) (getD rs (suc j) 0) && leb (midsection rs (suc j)) (midsectionFactor * midsection rs j)
 

@@ -1,30 +1,45 @@
 // The numbers of a scenario's first four sections, and document 01's limits and rules for them.
+use limits::COEFFICIENT_LIMIT;
+use limits::COEFFICIENT_PLACES;
+use limits::COLUMN_PLACES;
+use limits::CONDUCTIVITY_LIMIT;
+use limits::FRICTION_LIMIT;
+use limits::INTAKE_LIMIT;
+use limits::LAYER_PLACES;
+use limits::MIDSECTION_FACTOR;
+use limits::RADIUS_LIMIT;
+use limits::SPECIFIC_STORAGE_LIMIT;
+use limits::THICKNESS_LIMIT;
+use limits::WATER_AREA_LIMIT;
+use limits::WELL_RADIUS_LEAST;
+use limits::WELL_RADIUS_LIMIT;
+use limits::YIELD_LIMIT;
 ghost use mathlib.Core.Path.{_≡_};
 ghost use mathlib.Core.Bool.{_&&_, true};
 ghost use Prim.Native.Nat.{_+_, _*_, _≤_};
 ghost use lib.Dec.{leb, ltb};
 ghost use lib.ListN.{getD, length};
-ghost use Rattle.laws.specs.All.{allBelow};
-ghost use Rattle.site.specs.Limits.{layerCount, columnCount, coefficientCount, radiusLimits, wellRadiusLimits, waterAreaLimits, intakeLimits, frictionLimits, midsectionFactor};
+ghost use Rattle.laws.specs.Lists.{allBelow};
+ghost use Rattle.limits.specs.Limits.{layerCount, columnCount, coefficientCount, radiusLimits, wellRadiusLimits, waterAreaLimits, intakeLimits, frictionLimits, midsectionFactor};
 ghost use Rattle.site.specs.Site.{screenLayer, layerTop, countsHold, storageHolds, layerHolds, layersHold, columnsHold, screenLossHolds, numbersHold, radiiHold, screenHolds};
 
 // Slot i of an array by layer is for layer i + 1 of document 01, slot j of `radii` for column j + 1.
 // A slot that no layer, column or coefficient uses is 0.
 pub struct Site {
     pub layers: u64, // how many
-    pub thickness: [u64; 20], // b, mm
-    pub screened: [u64; 20], // 1 where the layer is screened, else 0
-    pub kh: [u64; 20], // horizontal conductivity, nm/s
-    pub kv: [u64; 20], // vertical conductivity, nm/s
-    pub storage: [u64; 20], // layer 1: specific yield, millionths; below: specific storage, 10^-9 per m
+    pub thickness: [u64; LAYER_PLACES], // b, mm
+    pub screened: [u64; LAYER_PLACES], // 1 where the layer is screened, else 0
+    pub kh: [u64; LAYER_PLACES], // horizontal conductivity, nm/s
+    pub kv: [u64; LAYER_PLACES], // vertical conductivity, nm/s
+    pub storage: [u64; LAYER_PLACES], // layer 1: specific yield, millionths; below: specific storage, 10^-9 per m
     pub columns: u64, // m: how many
-    pub radii: [u64; 50], // outer radius R_j, mm
-    pub radius: u64, // R_0 of the well, mm
-    pub area: u64, // free water area W, mm²
+    pub radii: [u64; COLUMN_PLACES], // outer radius R_j, mm
+    pub well_radius: u64, // R_0 of the well, mm
+    pub water_area: u64, // free water area W, mm²
     pub intake: u64, // intake depth p, mm
     pub friction: u64, // friction factor, millionths
-    pub coefficients: u64, // how many screen loss coefficients
-    pub loss: [u64; 2], // screen loss coefficients, millionths
+    pub loss_count: u64, // how many screen loss coefficients
+    pub loss_coefficients: [u64; COEFFICIENT_PLACES], // screen loss coefficients, millionths
 }
 
 fn between(lo: u64, hi: u64, n: u64) -> bool
@@ -36,19 +51,19 @@ fn between(lo: u64, hi: u64, n: u64) -> bool
 pub fn layer_count(n: u64) -> bool
     ensures { λ r. ⌜ r ≡ layerCount n ⌝ }
 {
-    between(2, 20, n)
+    between(2, LAYER_PLACES as u64, n)
 }
 
 pub fn column_count(n: u64) -> bool
     ensures { λ r. ⌜ r ≡ columnCount n ⌝ }
 {
-    between(2, 50, n)
+    between(2, COLUMN_PLACES as u64, n)
 }
 
 pub fn coefficient_count(n: u64) -> bool
     ensures { λ r. ⌜ r ≡ coefficientCount n ⌝ }
 {
-    n <= 2
+    n <= COEFFICIENT_PLACES as u64
 }
 
 // Storage of layer i: specific yield in the first, specific storage below it.
@@ -56,9 +71,9 @@ fn storage_holds(i: usize, storage: u64) -> bool
     ensures { λ r. ⌜ r ≡ storageHolds i storage ⌝ }
 {
     if i == 0 {
-        between(1, 100000000, storage)
+        between(1, YIELD_LIMIT, storage)
     } else {
-        between(1, 1000000, storage)
+        between(1, SPECIFIC_STORAGE_LIMIT, storage)
     }
 }
 
@@ -66,10 +81,10 @@ fn storage_holds(i: usize, storage: u64) -> bool
 fn layer_holds(i: usize, b: u64, screened: u64, kh: u64, kv: u64, storage: u64) -> bool
     ensures { λ r. ⌜ r ≡ layerHolds i b screened kh kv storage ⌝ }
 {
-    between(1, 1000000, b)
+    between(1, THICKNESS_LIMIT, b)
         & (screened <= 1)
-        & (kh <= 100000000)
-        & (kv <= 100000000)
+        & (kh <= CONDUCTIVITY_LIMIT)
+        & (kv <= CONDUCTIVITY_LIMIT)
         & storage_holds(i, storage)
 }
 
@@ -97,7 +112,7 @@ fn layers_hold(site: Site) -> bool
 }
 
 // Whether the first n numbers are at most `limit`.
-pub fn at_most(n: usize, numbers: &[u64], limit: u64) -> bool
+fn at_most(n: usize, numbers: &[u64], limit: u64) -> bool
     requires { ⌜ n ≤ length (now numbers) ⌝ }
     ensures { λ r. ⌜ r ≡ allBelow n (λ k. leb (getD (now (numbers .entry)) k 0) limit) ⌝ }
 {
@@ -115,10 +130,10 @@ pub fn at_most(n: usize, numbers: &[u64], limit: u64) -> bool
 fn well_holds(radius: u64, area: u64, intake: u64, friction: u64) -> bool
     ensures { λ r. ⌜ r ≡ (wellRadiusLimits radius && waterAreaLimits area && intakeLimits intake && frictionLimits friction) ⌝ }
 {
-    between(10, 5000, radius)
-        & between(1, 1000000000, area)
-        & between(1, 1000000, intake)
-        & (friction <= 1000000)
+    between(WELL_RADIUS_LEAST, WELL_RADIUS_LIMIT, radius)
+        & between(1, WATER_AREA_LIMIT, area)
+        & between(1, INTAKE_LIMIT, intake)
+        & (friction <= FRICTION_LIMIT)
 }
 
 // The limit of every column's radius.
@@ -126,7 +141,7 @@ fn columns_hold(site: Site) -> bool
     requires { ⌜ countsHold site ≡ true ⌝ }
     ensures { λ r. ⌜ r ≡ columnsHold site ⌝ }
 {
-    at_most(site.columns as usize, &site.radii, 2000000)
+    at_most(site.columns as usize, &site.radii, RADIUS_LIMIT)
 }
 
 // The limit of every screen loss coefficient.
@@ -134,7 +149,11 @@ fn coefficients_hold(site: Site) -> bool
     requires { ⌜ countsHold site ≡ true ⌝ }
     ensures { λ r. ⌜ r ≡ screenLossHolds site ⌝ }
 {
-    at_most(site.coefficients as usize, &site.loss, 1000000000000)
+    at_most(
+        site.loss_count as usize,
+        &site.loss_coefficients,
+        COEFFICIENT_LIMIT,
+    )
 }
 
 // The limits of 3.
@@ -142,7 +161,12 @@ pub fn numbers_hold(site: Site) -> bool
     requires { ⌜ countsHold site ≡ true ⌝ }
     ensures { λ r. ⌜ r ≡ numbersHold site ⌝ }
 {
-    let well = well_holds(site.radius, site.area, site.intake, site.friction);
+    let well = well_holds(
+        site.well_radius,
+        site.water_area,
+        site.intake,
+        site.friction,
+    );
     layers_hold(site) & columns_hold(site) & well & coefficients_hold(site)
 }
 
@@ -151,7 +175,7 @@ fn column_rises(previous: u64, radius: u64, next: u64) -> bool
     requires { ⌜ (radiusLimits previous ≡ true) × (radiusLimits radius ≡ true) × (radiusLimits next ≡ true) ⌝ }
     ensures { λ r. ⌜ r ≡ (ltb radius next && leb (radius + next) (midsectionFactor * (previous + radius))) ⌝ }
 {
-    (radius < next) & (radius + next <= 3 * (previous + radius))
+    (radius < next) & (radius + next <= MIDSECTION_FACTOR * (previous + radius))
 }
 
 // Rule 4, from the well to the last column.
@@ -160,8 +184,8 @@ pub fn radii_hold(site: Site) -> bool
     ensures { λ r. ⌜ r ≡ radiiHold site ⌝ }
 {
     let m = site.columns as usize;
-    let mut previous = site.radius;
-    let mut radius = site.radius;
+    let mut previous = site.well_radius;
+    let mut radius = site.well_radius;
     let mut j = 0;
     while j < m {
         let next = site.radii[j];
@@ -192,9 +216,9 @@ fn topmost_screened(site: Site) -> usize
 }
 
 // The depth of the top of a layer, mm.
-fn layer_top(site: Site, layer: usize) -> u64
+pub fn layer_top(site: Site, layer: usize) -> u64
     requires { ⌜ (countsHold site ≡ true) × (numbersHold site ≡ true) × (layer ≤ site .layers) ⌝ }
-    ensures { λ r. ⌜ r ≡ layerTop (site .thickness) layer ⌝ }
+    ensures { λ r. ⌜ (r ≡ layerTop (site .thickness) layer) × (r ≤ 1000000 * layer) ⌝ }
 {
     let mut depth = 0;
     let mut i = 0;

@@ -1,4 +1,4 @@
--- One step of many equal ones is the step. Assumes nothing.
+-- One step of many equal ones is the step.
 use mathlib.Core.Path.{_≡_, refl, sym, ap}
 use mathlib.Core.Bool.{Bool, true, false, cond}
 use Prim.Native.Nat.{ℕ}
@@ -6,9 +6,10 @@ use Rattle.record.specs.declared.Record.{Record}
 use Rattle.record.specs.declared.Answer.{Answer}
 use Rattle.record.specs.declared.Outcome.{Outcome}
 use Rattle.validity.specs.Validity.{valid}
-use Rattle.stepping.specs.Step.{stepOf}
-use Rattle.stepping.proofs.Laws.{refused-14}
-use Rattle.repeat.specs.Repeat.{onward, stepsOf, repeatOf, answered}
+use Rattle.step_rules.specs.Step.{stepOf}
+use Rattle.step_rules.proofs.Laws.{refused-14}
+use Rattle.step_rules.specs.Steps.{onward, stepsOf}
+use Rattle.step.specs.Repeat.{repeatOf, answered}
 
 module _ (r : Record) (rate dt : ℕ) where
   by-outcome : (a : Answer) → answered (onward 0 a (stepsOf rate dt 1 0)) ≡ a

@@ -3,7 +3,6 @@
 --     first-within       it ends within the text
 --     one-piece          where it is as long as the text, the text is one piece; first-line: where it is shorter, it is a line
 --     lines-line         the lines of a text that begins with a line; last-line: what is left after its lines
--- Assumes nothing.
 use mathlib.Core.Path.{_≡_, refl, sym, _∙_}
 use mathlib.Core.Bool.{Bool, true, false}
 use mathlib.Core.List.{List, [], _∷_, _++_, getLastD, getLast-cons, cons-ne-nil}

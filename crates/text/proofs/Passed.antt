@@ -1,5 +1,4 @@
 -- A text read up to the start of a line, and what the next line makes of it.
--- Assumes nothing.
 use mathlib.Core.Path.{_≡_, refl, sym, _∙_}
 use mathlib.Core.Bool.{Bool, true, false, _&&_, and-false}
 use mathlib.Core.List.{List, [], _∷_, _++_, append-nil, getLastD}
@@ -9,11 +8,12 @@ use lib.Dec.{eqb}
 use lib.ListN.{length, take, drop, set, replicate, length-append, length-drop, drop-of-length-le}
 use lib.Seq.{drop-drop, append-snoc}
 use borrow.Author.Tests.{le-leb, lt-leb, ne-eqb}
-use Rattle.laws.specs.Every.{every}
-use Rattle.laws.specs.Padded.{padded, padded-none, padded-more, length-padded}
+use Rattle.laws.specs.Lists.{every, padded}
+use Rattle.laws.specs.Padded.{padded-none, padded-more, length-padded}
 use Rattle.decimal.specs.Decimal.{numeral, value}
 use Rattle.text.specs.declared.Numbers.{Numbers}
-use Rattle.text.specs.Text.{textLimit, pieces, lines, unended, wellFormed, numbers, numberPlaces, formedWith, malformed, readOf}
+use Rattle.limits.specs.Limits.{textLimit, numberPlaces}
+use Rattle.text.specs.Text.{pieces, lines, unended, wellFormed, numbers, formedWith, malformed, readOf}
 use Rattle.text.proofs.Lines.{firstFrom, first-within, one-piece, first-line, lines-line, last-line}
 
 -- the form of what is left of a text: its last line ended, and each line a decimal whole number

@@ -5,18 +5,14 @@ use mathlib.Core.List.{List, [], _∷_, map, dropLast, getLastD}
 use Prim.Native.Nat.{ℕ}
 use lib.Dec.{leb, eqb}
 use lib.ListN.{length, replicate}
-use Rattle.laws.specs.Every.{every}
-use Rattle.laws.specs.Padded.{padded}
+use Rattle.limits.specs.Limits.{textLimit, numberPlaces}
+use Rattle.laws.specs.Lists.{every, padded}
 use Rattle.decimal.specs.Decimal.{numeral, value}
 use Rattle.text.specs.declared.Numbers.{Numbers}
 
 -- what ends a line
 abbrev pub lineFeed : ℕ
 lineFeed = 10
-
--- the most bytes of a text
-abbrev pub textLimit : ℕ
-textLimit = 65536
 
 -- a byte before pieces: a line feed parts an empty piece off, any other byte begins the first piece
 unfoldable pub prefixed : ℕ → List (List ℕ) → List (List ℕ)
@@ -42,11 +38,6 @@ wellFormed text = leb (length text) textLimit && eqb (length (unended text)) 0 &
 -- its numbers, line by line
 unfoldable pub numbers : List ℕ → List ℕ
 numbers text = map value (lines text)
-
--- How many numbers an answer keeps: one more than the most that a scenario has, 5 counts and 5×20 + 50 + 4 + 2 + 3×500
--- numbers in its sections.
-abbrev pub numberPlaces : ℕ
-numberPlaces = 1662
 
 -- the answer for a text with the numbers ns: how many there are, and the first of them, with 0 after the last
 unfoldable pub formedWith : List ℕ → Numbers

@@ -1,19 +1,16 @@
 // The scenario text: its lines to numbers.
 use decimal::Decimal;
+use limits::NUMBER_PLACES;
+use limits::TEXT_LIMIT;
 ghost use mathlib.Core.Path.{_≡_};
 ghost use mathlib.Core.List.{[]};
 ghost use Prim.Native.Nat.{_+_, _≤_};
 ghost use lib.ListN.{length, getD, drop, set};
-ghost use Rattle.text.specs.Text.{pieces, numberPlaces, malformed, readOf};
+ghost use Rattle.limits.specs.Limits.{numberPlaces};
+ghost use Rattle.text.specs.Text.{pieces, malformed, readOf};
 
 // What ends a line.
 const LINE_FEED: u8 = b'\n';
-
-// The most bytes of a text.
-const TEXT_LIMIT: usize = 65536;
-
-// How many numbers are kept: one more than the most that a scenario has, 5 counts and 5×20 + 50 + 4 + 2 + 3×500 numbers in its sections.
-const NUMBER_PLACES: usize = 1662;
 
 // The numbers of a text: whether it has the form, how many there are, and the first of them, with 0 after the last.
 pub struct Numbers {

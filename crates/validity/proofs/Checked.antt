@@ -1,100 +1,39 @@
 -- The tests that `valid` makes, in its order, and why they are those of 14.
--- Assumes nothing.
 use mathlib.Core.Path.{_≡_, refl, sym, ap, ap₂, subst, _∙_}
-use mathlib.Core.Bool.{Bool, true, false, cond, not, _&&_, _||_, and-false, or-true, false≢true}
-use mathlib.Core.List.{map, Memᴰ·map, Memᴰ·of-map}
-use Prim.Native.Nat.{ℕ, zero, suc, _+_, _*_, _-_, _/_, _%_, _≤_, _<_}
-use native.Mathlib.Nat.{div-lt-iff-lt-mul, le-refl, le-trans}
+use mathlib.Core.Bool.{Bool, true, false, cond, not, _&&_, _||_, or-true, false≢true}
+use mathlib.Core.List.{Memᴰ·map, Memᴰ·of-map}
+use Prim.Native.Nat.{ℕ, zero, suc, _+_, _*_, _-_, _≤_, _<_}
+use native.Mathlib.Nat.{le-refl}
 use native.Mathlib.Omega.{arith}
-use borrow.Author.Tests.{leb-true, leb-false, le-leb, lt-leb, ltb-false, lt-ltb, le-ltb, eqb-true, eq-eqb, not-true}
+use borrow.Author.Tests.{leb-true, le-leb, lt-ltb, le-ltb, eqb-true, eq-eqb, not-true}
 use lib.Dec.{leb, ltb, eqb}
 use lib.IntN.{ℤ, pos, negsuc, natAbs, _+ℤ_}
 use lib.ListN.{getD}
 use lib.Signed.{nonNeg, ltZ, _≤ℤ_}
 use Rattle.laws.specs.All.{all-at, and-left, and-right}
-use Rattle.laws.specs.Integer.{natural, pos-≤ℤ, ≤ℤ-pos}
+use Rattle.laws.specs.Integer.{natural, ≤ℤ-pos, ≤ℤ-up, not-past}
 use Rattle.laws.specs.Rows.{both-hold, same-test, four-hold, all-from}
-use Rattle.laws.specs.RowSums.{sum-shift, sum-cut, sum-rows, sum-places}
-use Rattle.laws.specs.Sums.{ifℤ, sumℕ, range, sumℕ-ext, sumℕ-zero, sumℕ-map, sumℕ-flatMap, sumℤ-ext, sumℤ-pos, mem-range, range-mem, none, none-at}
-use Rattle.network.specs.Limits.{totalLimit, drawdownLimit}
-use Rattle.network.specs.Network.{isPlace, lossAt, storageAt, drawdown, lossIn, wellTooDeep, tableTooDeep}
-use Rattle.network.specs.Grid.{storedColumns, layersOf, placeCount, place, onePerPlace, networkOf}
+use Rattle.laws.specs.Sums.{mem-range, range-mem, none, none-at}
+use Rattle.limits.specs.Limits.{conductanceLimit, storageLimit, drawdownLimit}
+use Rattle.network.specs.Network.{isPlace, lossAt, drawdown, lossIn, wellTooDeep, tableTooDeep}
+use Rattle.network.specs.Grid.{storedColumns, placeCount, place, networkOf}
 use Rattle.network.specs.Kept.{Kept}
-use Rattle.network.specs.laws.Places.{by-place, place-below, getD-one, length-one}
+use Rattle.network.specs.laws.Places.{by-place, place-below, length-one}
 use Rattle.geometry.specs.Geometry.{wellStorage}
 use Rattle.site.specs.Site.{countsHold, numbersHold, radiiHold, screenHolds}
 use Rattle.site.specs.Laws.{counts-hold, numbers-hold}
 use Rattle.record.specs.declared.Record.{Record}
 use Rattle.record.specs.Record.{slot, isCell, gridOf, stateOf}
-use Rattle.slots.specs.Slots.{coefficientsHold, coefficientsUnused, usedSlot}
-use Rattle.slots.specs.Held.{inside, slotsHold}
-use Rattle.slots.specs.Laws.{Coefficients, coefficients-hold, hold-coefficients, slot-below, slots-coefficients, used-held, held-from, used-slot, by-slot}
-use Rattle.validity.proofs.Laws.{slot-natural}
-use Rattle.validity.specs.Held.{lossSlotHolds, lossSlotsHold, lossSum, totalsAgree, shallow, depthSlotHolds, depthSlotsHold}
+use Rattle.coefficient_slots.specs.Slots.{coefficientsHold, coefficientsUnused, usedSlot}
+use Rattle.coefficient_slots.specs.Held.{inside, slotHolds, arrayHolds, screenArrayHolds, slotsHold}
+use Rattle.coefficient_slots.specs.Laws.{coefficients-hold, hold-coefficients, slot-below, slots-coefficients, used-held, held-from, used-slot, by-slot}
+use Rattle.validity_numbers.specs.Numbers.{siteHolds, siteUnused}
+use Rattle.validity_totals.specs.Totals.{lossSlotHolds, lossSlotsHold, lossSum, totalsAgree}
+use Rattle.validity_totals.specs.Laws.{Totals, slot-natural, totals-agree}
+use Rattle.validity_drawdowns.specs.Drawdowns.{deeper, Stored, depthSlotHolds, depthSlotsHold}
 use Rattle.validity.specs.Laws.{Valid, valid-record, record-valid, at-least-0, not-below-0}
-use Rattle.validity.specs.Validity.{siteHolds, siteUnused, lossesUnused, isZeroℤ, valid}
-
-unfoldable pub checked : Record → Bool
-checked r =
-    siteHolds (r .site) && siteUnused (r .site)
-    && slotsHold (r .site .layers) (r .site .columns) (r .site .screened) (r .screen) (r .horizontal) (r .vertical) (r .storages)
-    && lossSlotsHold (r .site .layers) (r .site .columns) (r .losses)
-    && eqb (r .«well_storage») (wellStorage (r .site .area))
-    && totalsAgree (r .losses) (r .«well_loss») (r .inflow) (r .pumped) (r .time)
-    && shallow (1000 * r .site .intake) (natAbs (r .«well_loss»)) (r .«well_storage»)
-    && depthSlotsHold (r .site .layers) (r .site .columns) (1000 * getD (r .site .thickness) 0 0) (r .losses) (r .storages)
-
--- ---- D without a division
-shallow-at : (limit v s : ℕ) → 0 < s → shallow limit v s ≡ true → v * 1000000 / s ≤ limit
-unfolding shallow
-shallow-at limit v s h e =
-    let below : v * 1000000 < (limit + 1) * s = leb-false _ _ (not-true _ e) in
-    let quotient : v * 1000000 / s < limit + 1 = div-lt-iff-lt-mul {k = s} h .1 below in
-    omega arith
-
-shallow-from : (limit v s : ℕ) → 0 < s → v * 1000000 / s ≤ limit → shallow limit v s ≡ true
-unfolding shallow
-shallow-from limit v s h e =
-    let below : v * 1000000 < (limit + 1) * s = div-lt-iff-lt-mul {k = s} {x = v * 1000000} {y = limit + 1} h .0 (omega arith) in
-    ap not (lt-leb ((limit + 1) * s) (v * 1000000) below)
-
--- ---- a sum over the slots, where those that no cell uses count 0, is one over the cells
-module _ (g : ℕ → ℕ) (n m : ℕ) (few : n ≤ 20) (one : 1 ≤ m) (narrow : m ≤ 50) (zeros : (k : ℕ) → k < 1000 → usedSlot (inside n m) k ≡ false → g k ≡ 0) where
-  below-layers : (i j : ℕ) → n ≤ i → i < 20 → j < 50 → g (i * 50 + j) ≡ 0
-  below-layers i j h few k =
-      let e : (i * 50 + j) / 50 ≡ i = omega arith in
-      zeros (i * 50 + j) (omega arith) (rw (e, le-ltb i n h))
-
-  past-columns : (i j : ℕ) → i < 20 → m - 1 ≤ j → j < 50 → g (i * 50 + j) ≡ 0
-  past-columns i j h k l =
-      let e : (i * 50 + j) % 50 + 1 ≡ j + 1 = omega arith in
-      zeros (i * 50 + j) (omega arith) (rw (e, le-ltb (j + 1) m (omega arith)) (and-false (ltb ((i * 50 + j) / 50) n)))
-
-  row : (i : ℕ) → i < 20 → sumℕ (range 0 50) (λ j. g (i * 50 + j)) ≡ sumℕ (range 1 (m - 1)) (λ j. g (slot i j))
-  unfolding slot
-  row i h =
-      sum-cut (λ j. g (i * 50 + j)) (m - 1) 50 (omega arith) (λ j a b. past-columns i j h a b)
-      ∙ sumℕ-ext (range 0 (m - 1)) (λ j k. ap g (place-in-row j))
-      ∙ sym (sum-shift (λ j. g (50 * i + (j - 1))) 1 0 (m - 1))
-    where
-      place-in-row : (j : ℕ) → i * 50 + j ≡ 50 * i + (1 + j - 1)
-      place-in-row j = omega arith
-
-  cell-sum : sumℕ (range 0 1000) g ≡ sumℕ (range 0 n) (λ i. sumℕ (range 1 (m - 1)) (λ j. g (slot i j)))
-  cell-sum =
-      sum-rows g 50 20
-      ∙ sum-cut (λ i. sumℕ (range 0 50) (λ j. g (i * 50 + j))) n 20 few
-      (λ i a b. sumℕ-zero (range 0 50) (λ j k. below-layers i j a b (omega (arith, range-mem 0 50 k))))
-      ∙ sumℕ-ext (range 0 n) (λ i k. row i (omega (arith, range-mem 0 n k)))
-
--- ---- signs and zeros
-second : (u z : Bool) → (u || z) ≡ true → u ≡ false → z ≡ true
-second true z e q = absurd (false≢true (sym q))
-second false z e q = e
-
-zero-size : (v : ℤ) → isZeroℤ v ≡ true → natAbs v ≡ 0
-zero-size (pos n) e = eqb-true n 0 e
-zero-size (negsuc n) e = absurd (false≢true e)
+use Rattle.validity.specs.Validity.{lossesUnused, isZeroℤ, valid}
+use Rattle.validity.proofs.Losses.{loss-well, loss-cell, well-depth, cell-depth, loss-in}
 
 -- a loss that passes its slot's test is 0 where the slot is not used
 unused-zero : (u : Bool) (v : ℤ) → (nonNeg v && (u || eqb (natAbs v) 0)) ≡ true → (u || isZeroℤ v) ≡ true
@@ -106,75 +45,21 @@ slot-passes u (pos n) f e = e
 slot-passes true (negsuc n) f e = absurd (false≢true (f refl))
 slot-passes false (negsuc n) f e = absurd (false≢true e)
 
--- ---- a record's losses and storages, by place
-module _ (r : Record) where
-  loss-well : lossAt (stateOf r .losses) 0 ≡ r .«well_loss»
-  unfolding lossAt stateOf onePerPlace
-  loss-well = refl
-
-  loss-cell : (i j : ℕ) → i < r .site .layers → suc j < r .site .columns → lossAt (stateOf r .losses) (place (gridOf r) i (suc j)) ≡ getD (r .losses) (slot i (suc j)) (pos 0)
-  unfolding lossAt stateOf gridOf
-  loss-cell i j h k = getD-one (gridOf r) (r .«well_loss») (λ i j. getD (r .losses) (slot i j) (pos 0)) (pos 0) i j h k
-
-  storage-well : storageAt (networkOf (gridOf r)) 0 ≡ r .«well_storage»
-  unfolding storageAt networkOf onePerPlace gridOf
-  storage-well = refl
-
-  storage-cell : (i j : ℕ) → i < r .site .layers → suc j < r .site .columns → storageAt (networkOf (gridOf r)) (place (gridOf r) i (suc j)) ≡ getD (r .storages) (slot i (suc j)) 0
-  unfolding storageAt networkOf gridOf
-  storage-cell i j h k = getD-one (gridOf r) (r .«well_storage») (λ i j. getD (r .storages) (slot i j) 0) 0 i j h k
-
-  depth-well : nonNeg (r .«well_loss») ≡ true → drawdown (networkOf (gridOf r)) (stateOf r .losses) 0 ≡ pos (natAbs (r .«well_loss») * 1000000 / r .«well_storage»)
-  unfolding drawdown
-  depth-well e = rw (loss-well ∙ natural (at-least-0 (r .«well_loss») e), storage-well)
-
-  depth-cell : (i j : ℕ) → i < r .site .layers → suc j < r .site .columns → nonNeg (getD (r .losses) (slot i (suc j)) (pos 0)) ≡ true
-      → drawdown (networkOf (gridOf r)) (stateOf r .losses) (place (gridOf r) i (suc j)) ≡ pos (natAbs (getD (r .losses) (slot i (suc j)) (pos 0)) * 1000000 / getD (r .storages) (slot i (suc j)) 0)
-  unfolding drawdown
-  depth-cell i j h k e = rw (loss-cell i j h k ∙ natural (at-least-0 (getD (r .losses) (slot i (suc j)) (pos 0)) e), storage-cell i j h k)
-
-  -- the losses of all places, from the slots
-  module _ (few : r .site .layers ≤ 20) (one : 1 ≤ r .site .columns) (narrow : r .site .columns ≤ 50) (unused : lossesUnused r ≡ true)
-      (naturals : (p : ℕ) → p < networkOf (gridOf r) .places → pos 0 ≤ℤ lossAt (stateOf r .losses) p) where
-    size : ℕ → ℕ
-    size k = natAbs (getD (r .losses) k (pos 0))
-
-    zeros : (k : ℕ) → k < 1000 → usedSlot (inside (r .site .layers) (r .site .columns)) k ≡ false → size k ≡ 0
-    unfolding lossesUnused isCell size
-    zeros k h e = zero-size (getD (r .losses) k (pos 0)) (second _ (isZeroℤ (getD (r .losses) k (pos 0))) (all-at _ 1000 k unused h) e)
-
-    by-list : sumℕ (range 0 (networkOf (gridOf r) .places)) (λ p. natAbs (lossAt (stateOf r .losses) p)) ≡ sumℕ (stateOf r .losses) natAbs
-    unfolding lossAt stateOf networkOf
-    by-list =
-        ap (λ n. sumℕ (range 0 n) (λ p. natAbs (getD (stateOf r .losses) p (pos 0)))) (sym (length-one (gridOf r) _ _))
-        ∙ sum-places natAbs (pos 0) (stateOf r .losses)
-
-    by-cell : sumℕ (stateOf r .losses) natAbs ≡ natAbs (r .«well_loss») + sumℕ (range 0 (r .site .layers)) (λ i. sumℕ (range 1 (r .site .columns - 1)) (λ j. size (slot i j)))
-    unfolding stateOf onePerPlace gridOf storedColumns layersOf sumℕ size
-    by-cell =
-        ap (λ n. natAbs (r .«well_loss») + n)
-        (sumℕ-flatMap (λ i. map (λ j. getD (r .losses) (slot i j) (pos 0)) (range 1 (r .site .columns - 1))) (range 0 (r .site .layers)) natAbs
-        ∙ sumℕ-ext (range 0 (r .site .layers)) (λ i m. sumℕ-map (λ j. getD (r .losses) (slot i j) (pos 0)) (range 1 (r .site .columns - 1)) natAbs))
-
-    loss-in : lossIn (networkOf (gridOf r)) (isPlace (networkOf (gridOf r))) (stateOf r .losses) ≡ pos (natAbs (r .«well_loss») + lossSum 1000 (r .losses))
-    unfolding lossIn lossSum isPlace ifℤ size
-    loss-in =
-        sumℤ-ext (range 0 (networkOf (gridOf r) .places)) (λ p m. let h = range-mem 0 (networkOf (gridOf r) .places) m in rw (lt-ltb p (networkOf (gridOf r) .places) (omega arith)) (natural (naturals p (omega arith))))
-        ∙ sumℤ-pos (range 0 (networkOf (gridOf r) .places)) (λ p. natAbs (lossAt (stateOf r .losses) p))
-        ∙ ap pos (by-list ∙ by-cell ∙ ap (λ n. natAbs (r .«well_loss») + n) (sym (cell-sum size (r .site .layers) (r .site .columns) few one narrow zeros)))
-
 -- ---- the tests and 14
+within : (n : ℕ) (z : ℤ) → z ≤ℤ pos n → ltZ (pos n) z ≡ false
+within n (pos m) h = le-ltb n m (≤ℤ-pos h)
+within n (negsuc m) h = refl
+
 deep-limit : (t : Bool) {table : ℕ} → table ≤ drawdownLimit → cond t table drawdownLimit ≤ drawdownLimit
 deep-limit true h = h
 deep-limit false h = le-refl drawdownLimit
 
-module _ (r : Record) (counts : countsHold (r .site) ≡ true) (numbers : numbersHold (r .site) ≡ true) (coefficients : Coefficients (gridOf r))
-    (storage : r .«well_storage» ≡ wellStorage (r .site .area)) where
+module _ (r : Record) (counts : countsHold (r .site) ≡ true) (numbers : numbersHold (r .site) ≡ true) where
   few : r .site .layers ≤ 20
   few = counts-hold (r .site) counts .layers-most
 
-  some-layer : 0 < r .site .layers
-  some-layer = omega (arith, counts-hold (r .site) counts .layers-least)
+  layer-1 : 1 ≤ r .site .layers
+  layer-1 = omega (arith, counts-hold (r .site) counts .layers-least)
 
   one : 1 ≤ r .site .columns
   one = omega (arith, counts-hold (r .site) counts .columns-least)
@@ -182,16 +67,8 @@ module _ (r : Record) (counts : countsHold (r .site) ≡ true) (numbers : number
   narrow : r .site .columns ≤ 50
   narrow = counts-hold (r .site) counts .columns-most
 
-  well-stores : 0 < r .«well_storage»
-  unfolding wellStorage
-  well-stores = omega (arith, storage, numbers-hold (r .site) numbers .well .area-least)
-
-  cell-stores : (i j : ℕ) → i < r .site .layers → suc j < r .site .columns → 0 < getD (r .storages) (slot i (suc j)) 0
-  unfolding gridOf
-  cell-stores i j h k = omega (arith, coefficients .storage i (suc j) h (omega arith) k .least)
-
   table-limit : 1000 * getD (r .site .thickness) 0 0 ≤ drawdownLimit
-  table-limit = omega (arith, numbers-hold (r .site) numbers .layer 0 some-layer .thickness-most)
+  table-limit = omega (arith, numbers-hold (r .site) numbers .layer 0 layer-1 .thickness-most)
 
   first-slots : (j : ℕ) → suc j < r .site .columns → ltb (slot 0 (suc j)) 50 ≡ true
   unfolding slot
@@ -204,8 +81,8 @@ module _ (r : Record) (counts : countsHold (r .site) ≡ true) (numbers : number
   -- where the tests hold
   module _ (slots : lossSlotsHold (r .site .layers) (r .site .columns) (r .losses) ≡ true)
       (totals : totalsAgree (r .losses) (r .«well_loss») (r .inflow) (r .pumped) (r .time) ≡ true)
-      (well : shallow (1000 * r .site .intake) (natAbs (r .«well_loss»)) (r .«well_storage») ≡ true)
-      (depths : depthSlotsHold (r .site .layers) (r .site .columns) (1000 * getD (r .site .thickness) 0 0) (r .losses) (r .storages) ≡ true) where
+      (well : not (deeper (1000 * r .site .intake) (r .«well_storage») (r .«well_loss»)) ≡ true)
+      (depths : depthSlotsHold (r .site .layers) (r .site .columns) (1000 * getD (r .site .thickness) 0 0) (r .storages) (r .losses) ≡ true) where
     unused : lossesUnused r ≡ true
     unfolding lossesUnused isCell lossSlotsHold lossSlotHolds
     unused = all-from _ 1000 (λ k h. unused-zero (usedSlot (isCell (r .site)) k) (getD (r .losses) k (pos 0)) (all-at _ 1000 k slots h))
@@ -213,62 +90,62 @@ module _ (r : Record) (counts : countsHold (r .site) ≡ true) (numbers : number
     cell-natural : (i j : ℕ) → i < r .site .layers → suc j < r .site .columns → nonNeg (getD (r .losses) (slot i (suc j)) (pos 0)) ≡ true
     cell-natural i j h k = slot-natural (r .site .layers) (r .site .columns) (r .losses) slots (slot i (suc j)) (slot-below i (suc j) (omega (arith, few)) (omega (arith, narrow)))
 
-    total-tests : ((nonNeg (r .«well_loss») && nonNeg (r .inflow)) ≡ true) × (leb (r .pumped) totalLimit ≡ true) × (leb (r .time) totalLimit ≡ true)
-        × (eqb (lossSum 1000 (r .losses) + (natAbs (r .«well_loss») + natAbs (r .inflow))) (r .pumped) ≡ true)
-    unfolding totalsAgree
-    total-tests = four-hold (nonNeg (r .«well_loss») && nonNeg (r .inflow)) (leb (r .pumped) totalLimit) (leb (r .time) totalLimit) _ totals
-
-    well-natural : nonNeg (r .«well_loss») ≡ true
-    well-natural = and-left (nonNeg (r .«well_loss»)) (nonNeg (r .inflow)) (total-tests .0)
+    agreed : Totals (r .losses) (r .«well_loss») (r .inflow) (r .pumped) (r .time)
+    agreed = totals-agree (r .losses) (r .«well_loss») (r .inflow) (r .pumped) (r .time) totals
 
     inflow-natural : pos 0 ≤ℤ r .inflow
-    inflow-natural = at-least-0 (r .inflow) (and-right (nonNeg (r .«well_loss»)) (nonNeg (r .inflow)) (total-tests .0))
+    inflow-natural = at-least-0 (r .inflow) (agreed .inflow)
 
     naturals : (p : ℕ) → p < networkOf (gridOf r) .places → pos 0 ≤ℤ lossAt (stateOf r .losses) p
     unfolding networkOf gridOf
     naturals =
-        by-place (gridOf r) (λ p. pos 0 ≤ℤ lossAt (stateOf r .losses) p) (rw (loss-well r) (at-least-0 (r .«well_loss») well-natural))
+        by-place (gridOf r) (λ p. pos 0 ≤ℤ lossAt (stateOf r .losses) p) (rw (loss-well r) (at-least-0 (r .«well_loss») (agreed .well)))
         (λ i j h k. rw (loss-cell r i j h k) (at-least-0 _ (cell-natural i j h k)))
 
     budget : lossIn (networkOf (gridOf r)) (isPlace (networkOf (gridOf r))) (stateOf r .losses) +ℤ r .inflow ≡ pos (r .pumped)
     budget =
         ap₂ _+ℤ_ (loss-in r few one narrow unused naturals) (natural inflow-natural)
-        ∙ ap pos (regroup (natAbs (r .«well_loss»)) (lossSum 1000 (r .losses)) (natAbs (r .inflow)) (eqb-true _ _ (total-tests .3)))
+        ∙ ap pos (regroup (natAbs (r .«well_loss»)) (lossSum 1000 (r .losses)) (natAbs (r .inflow)) (agreed .sum))
       where
         regroup : (a b c : ℕ) {d : ℕ} → b + (a + c) ≡ d → a + b + c ≡ d
         regroup a b c e = omega arith
 
-    cell-depth : (i j : ℕ) → i < r .site .layers → suc j < r .site .columns
-        → natAbs (getD (r .losses) (slot i (suc j)) (pos 0)) * 1000000 / getD (r .storages) (slot i (suc j)) 0 ≤ cond (ltb (slot i (suc j)) 50) (1000 * getD (r .site .thickness) 0 0) drawdownLimit
+    slot-depth : (i j : ℕ) → i < r .site .layers → suc j < r .site .columns
+        → deeper (cond (ltb (slot i (suc j)) 50) (1000 * getD (r .site .thickness) 0 0) drawdownLimit) (getD (r .storages) (slot i (suc j)) 0) (getD (r .losses) (slot i (suc j)) (pos 0)) ≡ false
     unfolding depthSlotsHold depthSlotHolds
-    cell-depth i j h k =
-        shallow-at _ _ _ (cell-stores i j h k)
-        (used-held (usedSlot (inside (r .site .layers) (r .site .columns)) (slot i (suc j))) _ true
+    slot-depth i j h k =
+        not-true _ (used-held (usedSlot (inside (r .site .layers) (r .site .columns)) (slot i (suc j))) _ true
         (all-at _ 1000 (slot i (suc j)) depths (slot-below i (suc j) (omega (arith, few)) (omega (arith, narrow))))
         (used-slot (r .site .layers) (r .site .columns) i (suc j) h (omega arith) k narrow))
 
     table-depth : (j : ℕ) → 1 ≤ j → j < r .site .columns → ltZ (pos (1000 * getD (r .site .thickness) 0 0)) (drawdown (networkOf (gridOf r)) (stateOf r .losses) (place (gridOf r) 0 j)) ≡ false
     table-depth zero a k = absurd (omega arith)
-    table-depth (suc j) a k =
-        rw (depth-cell r 0 j some-layer k (cell-natural 0 j some-layer k)) (le-ltb _ _ (rw (first-slots j k) at (cell-depth 0 j some-layer k)))
+    table-depth (suc j) a k = sym (cell-depth r _ 0 j layer-1 k) ∙ rw (first-slots j k) at (slot-depth 0 j layer-1 k)
+
+    well-within : wellTooDeep (networkOf (gridOf r)) (stateOf r .losses) ≡ false
+    well-within = sym (well-depth r) ∙ not-true _ well
+
+    well-limit : drawdown (networkOf (gridOf r)) (stateOf r .losses) 0 ≤ℤ pos drawdownLimit
+    unfolding wellTooDeep networkOf gridOf
+    well-limit = ≤ℤ-up _ (not-past well-within) (omega (arith, numbers-hold (r .site) numbers .well .intake-most))
 
     kept : Kept (networkOf (gridOf r)) (stateOf r)
-    unfolding stateOf networkOf gridOf wellTooDeep tableTooDeep storedColumns
+    unfolding stateOf networkOf gridOf tableTooDeep storedColumns
     kept = record {
       listed = length-one (gridOf r) _ _;
       losses = naturals;
       inflow = inflow-natural;
       budget = budget;
-      pumped = leb-true _ _ (total-tests .1);
-      time = leb-true _ _ (total-tests .2);
-      well = rw (depth-well r well-natural) (le-ltb _ _ (shallow-at _ _ _ well-stores well));
+      pumped = agreed .pumped;
+      time = agreed .time;
+      well = well-within;
       table = none _ (networkOf (gridOf r) .table) (λ p m.
           let cell = Memᴰ·of-map (place (gridOf r) 0) (storedColumns (gridOf r)) m in
           let column = range-mem 1 (r .site .columns - 1) (cell .1) in
           subst (λ p. ltZ (pos (1000 * getD (r .site .thickness) 0 0)) (drawdown (networkOf (gridOf r)) (stateOf r .losses) p) ≡ false) (cell .2) (table-depth (cell .0) (omega arith) (omega (arith, one))));
       depths = by-place (gridOf r) (λ p. drawdown (networkOf (gridOf r)) (stateOf r .losses) p ≤ℤ pos drawdownLimit)
-          (rw (depth-well r well-natural) (pos-≤ℤ (le-trans (shallow-at _ _ _ well-stores well) (omega (arith, numbers-hold (r .site) numbers .well .intake-most)))))
-          (λ i j h k. rw (depth-cell r i j h k (cell-natural i j h k)) (pos-≤ℤ (le-trans (cell-depth i j h k) (deep-limit (ltb (slot i (suc j)) 50) table-limit))));
+          well-limit
+          (λ i j h k. ≤ℤ-up _ (not-past (sym (cell-depth r _ i j h k) ∙ slot-depth i j h k)) (deep-limit (ltb (slot i (suc j)) 50) table-limit));
     }
 
   -- where 14 lets the record pass
@@ -300,77 +177,125 @@ module _ (r : Record) (counts : countsHold (r .site) ≡ true) (numbers : number
         both-hold (both-hold (both-hold (both-hold kept-well (not-below-0 (r .inflow) (kept .inflow))) (le-leb _ _ (kept .pumped))) (le-leb _ _ (kept .time)))
         (eq-eqb (lossSum 1000 (r .losses) + (natAbs (r .«well_loss») + natAbs (r .inflow))) (r .pumped) (omega (arith, ap natAbs sum)))
 
-    well-shallow : shallow (1000 * r .site .intake) (natAbs (r .«well_loss»)) (r .«well_storage») ≡ true
-    unfolding wellTooDeep networkOf gridOf
-    well-shallow = shallow-from _ _ _ well-stores (ltb-false _ _ (rw (depth-well r kept-well) at (kept .well)))
+    well-passes : not (deeper (1000 * r .site .intake) (r .«well_storage») (r .«well_loss»)) ≡ true
+    well-passes = ap not (well-depth r ∙ kept .well)
 
-    cell-shallow : (i j : ℕ) → i < r .site .layers → suc j < r .site .columns
-        → shallow (cond (ltb (slot i (suc j)) 50) (1000 * getD (r .site .thickness) 0 0) drawdownLimit) (natAbs (getD (r .losses) (slot i (suc j)) (pos 0))) (getD (r .storages) (slot i (suc j)) 0) ≡ true
+    cell-passes : (i j : ℕ) → i < r .site .layers → suc j < r .site .columns
+        → not (deeper (cond (ltb (slot i (suc j)) 50) (1000 * getD (r .site .thickness) 0 0) drawdownLimit) (getD (r .storages) (slot i (suc j)) 0) (getD (r .losses) (slot i (suc j)) (pos 0))) ≡ true
     unfolding tableTooDeep networkOf gridOf storedColumns
-    cell-shallow zero j h k =
+    cell-passes zero j h k =
         let on-table = none-at _ (kept .table) (Memᴰ·map (place (gridOf r) 0) (mem-range {p = suc j} (r .site .columns - 1) (omega arith) (omega arith))) in
-        rw (first-slots j k) (shallow-from _ _ _ (cell-stores 0 j h k) (ltb-false _ _ (rw (depth-cell r 0 j h k (kept-natural 0 j h k)) at on-table)))
-    cell-shallow (suc i) j h k =
+        rw (first-slots j k) (ap not (cell-depth r _ 0 j h k ∙ on-table))
+    cell-passes (suc i) j h k =
         rw (later-slots i (suc j))
-        (shallow-from _ _ _ (cell-stores (suc i) j h k) (≤ℤ-pos (rw (depth-cell r (suc i) j h k (kept-natural (suc i) j h k)) at (kept .depths (place (gridOf r) (suc i) (suc j)) (place-below (gridOf r) (suc i) j h k)))))
+        (ap not (cell-depth r _ (suc i) j h k ∙ within drawdownLimit _ (kept .depths (place (gridOf r) (suc i) (suc j)) (place-below (gridOf r) (suc i) j h k))))
 
-    depth-slots : depthSlotsHold (r .site .layers) (r .site .columns) (1000 * getD (r .site .thickness) 0 0) (r .losses) (r .storages) ≡ true
+    depth-slots : depthSlotsHold (r .site .layers) (r .site .columns) (1000 * getD (r .site .thickness) 0 0) (r .storages) (r .losses) ≡ true
     unfolding depthSlotsHold depthSlotHolds
     depth-slots =
         all-from _ 1000 (λ k h. held-from (usedSlot (inside (r .site .layers) (r .site .columns)) k) _ true
         (by-slot (r .site .layers) (r .site .columns)
-        (λ k. shallow (cond (ltb k 50) (1000 * getD (r .site .thickness) 0 0) drawdownLimit) (natAbs (getD (r .losses) k (pos 0))) (getD (r .storages) k 0) ≡ true) at-cell k)
+        (λ k. not (deeper (cond (ltb k 50) (1000 * getD (r .site .thickness) 0 0) drawdownLimit) (getD (r .storages) k 0) (getD (r .losses) k (pos 0))) ≡ true) at-cell k)
         (or-true (usedSlot (inside (r .site .layers) (r .site .columns)) k)))
       where
         at-cell : (i j : ℕ) → i < r .site .layers → 1 ≤ j → j < r .site .columns
-            → shallow (cond (ltb (slot i j) 50) (1000 * getD (r .site .thickness) 0 0) drawdownLimit) (natAbs (getD (r .losses) (slot i j) (pos 0))) (getD (r .storages) (slot i j) 0) ≡ true
+            → not (deeper (cond (ltb (slot i j) 50) (1000 * getD (r .site .thickness) 0 0) drawdownLimit) (getD (r .storages) (slot i j) 0) (getD (r .losses) (slot i j) (pos 0))) ≡ true
         at-cell i zero h a k = absurd (omega arith)
-        at-cell i (suc j) h a k = cell-shallow i j h k
+        at-cell i (suc j) h a k = cell-passes i j h k
 
 module _ (r : Record) where
-  abbrev arrays : Bool
-  arrays = slotsHold (r .site .layers) (r .site .columns) (r .site .screened) (r .screen) (r .horizontal) (r .vertical) (r .storages)
+  abbrev pub numbersPass : Bool
+  numbersPass = siteHolds (r .site) && siteUnused (r .site)
 
-  forth : checked r ≡ true → Valid r
-  unfolding checked siteHolds
+  abbrev pub arraysPass : Bool
+  arraysPass = slotsHold (r .site .layers) (r .site .columns) (r .site .screened) (r .screen) (r .horizontal) (r .vertical) (r .storages)
+
+  abbrev pub storagePasses : Bool
+  storagePasses = eqb (r .«well_storage») (wellStorage (r .site .«water_area»))
+
+  abbrev pub lossesPass : Bool
+  lossesPass = lossSlotsHold (r .site .layers) (r .site .columns) (r .losses)
+
+  abbrev pub totalsPass : Bool
+  totalsPass = totalsAgree (r .losses) (r .«well_loss») (r .inflow) (r .pumped) (r .time)
+
+  abbrev pub wellPasses : Bool
+  wellPasses = not (deeper (1000 * r .site .intake) (r .«well_storage») (r .«well_loss»))
+
+  abbrev pub depthsPass : Bool
+  depthsPass = depthSlotsHold (r .site .layers) (r .site .columns) (1000 * getD (r .site .thickness) 0 0) (r .storages) (r .losses)
+
+  unfoldable pub checked : Bool
+  checked = numbersPass && arraysPass && storagePasses && (lossesPass && totalsPass) && (wellPasses && depthsPass)
+
+  -- what the tests before them give the later ones
+  pub site-passed : numbersPass ≡ true → (countsHold (r .site) ≡ true) × (numbersHold (r .site) ≡ true) × (radiiHold (r .site) ≡ true) × (screenHolds (r .site) ≡ true)
+  unfolding siteHolds
+  site-passed e = four-hold (countsHold (r .site)) (numbersHold (r .site)) (radiiHold (r .site)) (screenHolds (r .site)) (and-left (siteHolds (r .site)) (siteUnused (r .site)) e)
+
+  module _ (numbers : numbersPass ≡ true) where
+    pub some-layer : 1 ≤ r .site .layers
+    some-layer = layer-1 r (site-passed numbers .0) (site-passed numbers .1)
+
+    pub area-most : r .site .«water_area» ≤ 1000000000
+    area-most = numbers-hold (r .site) (site-passed numbers .1) .well .area-most
+
+    pub table-most : 1000 * getD (r .site .thickness) 0 0 ≤ drawdownLimit
+    table-most = table-limit r (site-passed numbers .0) (site-passed numbers .1)
+
+    pub intake-most : 1000 * r .site .intake ≤ drawdownLimit
+    intake-most = omega (arith, numbers-hold (r .site) (site-passed numbers .1) .well .intake-most)
+
+    pub well-stores : storagePasses ≡ true → 0 < r .«well_storage»
+    unfolding wellStorage
+    well-stores e = omega (arith, eqb-true (r .«well_storage») _ e, numbers-hold (r .site) (site-passed numbers .1) .well .area-least)
+
+  pub cells-store : arraysPass ≡ true → lossesPass ≡ true → Stored (r .site .layers) (r .site .columns) (r .storages) (r .losses)
+  unfolding slotsHold arrayHolds slotHolds
+  cells-store e f =
+      let arrays = four-hold (screenArrayHolds (r .site .layers) (r .site .screened) (r .screen)) (arrayHolds (r .site .layers) (r .site .columns) 0 conductanceLimit (r .horizontal))
+      (arrayHolds (r .site .layers - 1) (r .site .columns) 0 conductanceLimit (r .vertical)) (arrayHolds (r .site .layers) (r .site .columns) 1 storageLimit (r .storages)) e in
+      record {
+        storage = λ k h u. leb-true 1 _ (and-left (leb 1 (getD (r .storages) k 0)) _ (used-held (usedSlot (inside (r .site .layers) (r .site .columns)) k) _ _ (all-at _ 1000 k (arrays .3) h) u));
+        loss = λ k h u. at-least-0 _ (slot-natural (r .site .layers) (r .site .columns) (r .losses) f k h);
+      }
+
+  pub well-natural : totalsPass ≡ true → pos 0 ≤ℤ r .«well_loss»
+  well-natural e = at-least-0 _ (totals-agree (r .losses) (r .«well_loss») (r .inflow) (r .pumped) (r .time) e .well)
+
+  forth : checked ≡ true → Valid r
+  unfolding checked
   forth e =
-      let losses = lossSlotsHold (r .site .layers) (r .site .columns) (r .losses) in
-      let storage = eqb (r .«well_storage») (wellStorage (r .site .area)) in
-      let totals = totalsAgree (r .losses) (r .«well_loss») (r .inflow) (r .pumped) (r .time) in
-      let well = shallow (1000 * r .site .intake) (natAbs (r .«well_loss»)) (r .«well_storage») in
-      let depths = depthSlotsHold (r .site .layers) (r .site .columns) (1000 * getD (r .site .thickness) 0 0) (r .losses) (r .storages) in
-      let last = four-hold (siteHolds (r .site) && siteUnused (r .site) && arrays && losses && storage) totals well depths e in
-      let rest = and-left (siteHolds (r .site) && siteUnused (r .site) && arrays && losses) storage (last .0) in
-      let head = four-hold (siteHolds (r .site)) (siteUnused (r .site)) arrays losses rest in
-      let site = four-hold (countsHold (r .site)) (numbersHold (r .site)) (radiiHold (r .site)) (screenHolds (r .site)) (head .0) in
-      let coefficients : (coefficientsHold (gridOf r) && coefficientsUnused r) ≡ true = sym (slots-coefficients r (site .0)) ∙ head .2 in
-      let limits = coefficients-hold (gridOf r) (and-left (coefficientsHold (gridOf r)) (coefficientsUnused r) coefficients) in
-      let stored : r .«well_storage» ≡ wellStorage (r .site .area) = eqb-true _ _ (and-right (siteHolds (r .site) && siteUnused (r .site) && arrays && losses) storage (last .0)) in
+      let all = four-hold (numbersPass && arraysPass) storagePasses (lossesPass && totalsPass) (wellPasses && depthsPass) e in
+      let numbers = and-left numbersPass arraysPass (all .0) in
+      let site = site-passed numbers in
+      let coefficients : (coefficientsHold (gridOf r) && coefficientsUnused r) ≡ true = sym (slots-coefficients r (site .0)) ∙ and-right numbersPass arraysPass (all .0) in
+      let losses = and-left lossesPass totalsPass (all .2) in
+      let totals = and-right lossesPass totalsPass (all .2) in
+      let well = and-left wellPasses depthsPass (all .3) in
+      let depths = and-right wellPasses depthsPass (all .3) in
       record {
         counts = site .0;
         numbers = site .1;
         radii = site .2;
         screen = site .3;
-        siteUnused = head .1;
+        siteUnused = and-right (siteHolds (r .site)) (siteUnused (r .site)) numbers;
         coefficientsUnused = and-right (coefficientsHold (gridOf r)) (coefficientsUnused r) coefficients;
-        lossesUnused = unused r (site .0) (site .1) limits stored (head .3) (last .1) (last .2) (last .3);
-        coefficients = limits;
-        wellStorage = stored;
-        kept = kept r (site .0) (site .1) limits stored (head .3) (last .1) (last .2) (last .3);
+        lossesUnused = unused r (site .0) (site .1) losses totals well depths;
+        coefficients = coefficients-hold (gridOf r) (and-left (coefficientsHold (gridOf r)) (coefficientsUnused r) coefficients);
+        wellStorage = eqb-true _ _ (all .1);
+        kept = kept r (site .0) (site .1) losses totals well depths;
       }
 
-  back : Valid r → checked r ≡ true
+  back : Valid r → checked ≡ true
   unfolding checked siteHolds
   back v =
-      both-hold (both-hold (both-hold (both-hold (both-hold (both-hold (both-hold
-      (both-hold (both-hold (both-hold (v .counts) (v .numbers)) (v .radii)) (v .screen))
-      (v .siteUnused))
+      both-hold (both-hold (both-hold (both-hold
+      (both-hold (both-hold (both-hold (both-hold (v .counts) (v .numbers)) (v .radii)) (v .screen)) (v .siteUnused))
       (slots-coefficients r (v .counts) ∙ both-hold (hold-coefficients (gridOf r) (v .coefficients)) (v .coefficientsUnused)))
-      (loss-slots r (v .counts) (v .numbers) (v .coefficients) (v .wellStorage) (v .kept) (v .lossesUnused)))
       (eq-eqb _ _ (v .wellStorage)))
-      (total-agrees r (v .counts) (v .numbers) (v .coefficients) (v .wellStorage) (v .kept) (v .lossesUnused)))
-      (well-shallow r (v .counts) (v .numbers) (v .coefficients) (v .wellStorage) (v .kept) (v .lossesUnused)))
-      (depth-slots r (v .counts) (v .numbers) (v .coefficients) (v .wellStorage) (v .kept) (v .lossesUnused))
+      (both-hold (loss-slots r (v .counts) (v .numbers) (v .kept) (v .lossesUnused)) (total-agrees r (v .counts) (v .numbers) (v .kept) (v .lossesUnused))))
+      (both-hold (well-passes r (v .counts) (v .numbers) (v .kept) (v .lossesUnused)) (depth-slots r (v .counts) (v .numbers) (v .kept) (v .lossesUnused)))
 
-  pub checked-valid : checked r ≡ valid r
-  checked-valid = same-test (checked r) (valid r) (λ e. record-valid r (forth e)) (λ e. back (valid-record r e))
+  pub checked-valid : checked ≡ valid r
+  checked-valid = same-test checked (valid r) (λ e. record-valid r (forth e)) (λ e. back (valid-record r e))

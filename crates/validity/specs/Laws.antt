@@ -3,7 +3,6 @@
 --     Valid                      what a record that 14 lets pass is
 --     valid-record               from the test; record-valid: back to it
 --     valid-proper               the network of such a record is one on which steps can be taken
--- Assumes nothing.
 use mathlib.Core.Path.{_≡_, refl, ap}
 use mathlib.Core.Bool.{Bool, true, false, not, _&&_, false≢true}
 use Prim.Native.Nat.{_≤_, zero-le}
@@ -14,12 +13,13 @@ use lib.Dec.{T, leb, ltb, eqb}
 use lib.IntN.{ℤ, pos, negsuc, _+ℤ_}
 use lib.ListN.{length}
 use lib.Signed.{leZ, nonNeg, _≤ℤ_, leZ-yes}
-use Rattle.laws.specs.All.{allBelow, all-at, and-left, and-right}
-use Rattle.laws.specs.Every.{every, every-at}
+use Rattle.laws.specs.Lists.{allBelow, every}
+use Rattle.laws.specs.All.{all-at, and-left, and-right}
+use Rattle.laws.specs.Every.{every-at}
 use Rattle.laws.specs.Integer.{pos-≤ℤ}
 use Rattle.laws.specs.Pointwise.{every-from}
 use Rattle.laws.specs.Rows.{both-hold, three-hold, four-hold, all-from}
-use Rattle.network.specs.Limits.{totalLimit, drawdownLimit}
+use Rattle.limits.specs.Limits.{totalLimit, drawdownLimit}
 use Rattle.network.specs.Network.{Network, State, isPlace, lossAt, drawdown, lossIn, wellTooDeep, tableTooDeep}
 use Rattle.network.specs.Grid.{networkOf}
 use Rattle.network.specs.Kept.{Proper, Kept}
@@ -30,9 +30,10 @@ use Rattle.site.specs.Site.{isScreened, countsHold, numbersHold, radiiHold, scr
 use Rattle.site.specs.Laws.{numbers-hold}
 use Rattle.record.specs.declared.Record.{Record}
 use Rattle.record.specs.Record.{gridOf, stateOf}
-use Rattle.slots.specs.Slots.{coefficientsHold, coefficientsUnused}
-use Rattle.slots.specs.Laws.{Coefficients, coefficients-hold, hold-coefficients}
-use Rattle.validity.specs.Validity.{siteHolds, siteUnused, lossesUnused, equalℤ, totalsHold, drawdownsHold, valid}
+use Rattle.coefficient_slots.specs.Slots.{coefficientsHold, coefficientsUnused}
+use Rattle.coefficient_slots.specs.Laws.{Coefficients, coefficients-hold, hold-coefficients}
+use Rattle.validity_numbers.specs.Numbers.{siteHolds, siteUnused}
+use Rattle.validity.specs.Validity.{lossesUnused, equalℤ, totalsHold, drawdownsHold, valid}
 
 -- ---- tests of integers
 so : {b : Bool} → b ≡ true → T b
@@ -107,7 +108,7 @@ pub record Valid (r : Record) : Type 0 where
   pub coefficientsUnused : coefficientsUnused r ≡ true
   pub lossesUnused : lossesUnused r ≡ true
   pub coefficients : Coefficients (gridOf r)
-  pub wellStorage : r .«well_storage» ≡ wellStorage (r .site .area)
+  pub wellStorage : r .«well_storage» ≡ wellStorage (r .site .«water_area»)
   pub kept : Kept (networkOf (gridOf r)) (stateOf r)
 
 module _ (r : Record) where
@@ -118,7 +119,7 @@ module _ (r : Record) where
   pub valid-record : valid r ≡ true → Valid r
   unfolding valid siteHolds
   valid-record e =
-      let well = eqb (r .«well_storage») (wellStorage (r .site .area)) in
+      let well = eqb (r .«well_storage») (wellStorage (r .site .«water_area»)) in
       let totals = totalsHold (networkOf (gridOf r)) (stateOf r) in
       let depths = drawdownsHold (networkOf (gridOf r)) (stateOf r .losses) in
       let slots = siteHolds (r .site) && siteUnused (r .site) && coefficientsUnused r && lossesUnused r in

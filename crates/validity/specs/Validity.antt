@@ -1,37 +1,24 @@
 -- Which records 14 refuses (document 01, 'Who brings a refusal about'), clause by clause.
--- Assumes nothing.
 use mathlib.Core.Bool.{Bool, false, not, _&&_, _||_}
 use mathlib.Core.List.{List}
-use Prim.Native.Nat.{ℕ}
 use lib.IntN.{ℤ, pos, negsuc, _+ℤ_}
 use lib.Dec.{leb, eqb}
 use lib.Signed.{leZ, nonNeg}
-use lib.ListN.{getD, drop}
-use Rattle.laws.specs.All.{allBelow}
-use Rattle.laws.specs.Every.{every}
-use Rattle.network.specs.Limits.{totalLimit, drawdownLimit}
+use lib.ListN.{getD}
+use Rattle.laws.specs.Lists.{allBelow, every}
+use Rattle.limits.specs.Limits.{totalLimit, drawdownLimit}
 use Rattle.network.specs.Network.{Network, State, isPlace, drawdown, lossIn, wellTooDeep, tableTooDeep}
 use Rattle.network.specs.Grid.{networkOf}
 use Rattle.geometry.specs.Geometry.{wellStorage}
-use Rattle.site.specs.declared.Site.{Site}
-use Rattle.site.specs.Site.{countsHold, numbersHold, radiiHold, screenHolds}
 use Rattle.record.specs.declared.Record.{Record}
 use Rattle.record.specs.Record.{isCell, gridOf, stateOf}
-use Rattle.slots.specs.Slots.{coefficientsHold, coefficientsUnused, usedSlot}
+use Rattle.coefficient_slots.specs.Slots.{coefficientsHold, coefficientsUnused, usedSlot}
+use Rattle.validity_numbers.specs.Numbers.{siteHolds, siteUnused}
 
--- ---- 0 in every slot that nothing uses
+-- ---- 0 in every slot of a loss that no cell uses
 abbrev pub isZeroℤ : ℤ → Bool
 isZeroℤ (pos n) = eqb n 0
 isZeroℤ (negsuc n) = false
-
--- an array by layer, column or coefficient of which the first n slots are used
-unfoldable pub zeroFrom : ℕ → List ℕ → Bool
-zeroFrom n l = every (λ x. eqb x 0) (drop n l)
-
-unfoldable pub siteUnused : Site → Bool
-siteUnused s =
-    zeroFrom (s .layers) (s .thickness) && zeroFrom (s .layers) (s .screened) && zeroFrom (s .layers) (s .kh) && zeroFrom (s .layers) (s .kv)
-    && zeroFrom (s .layers) (s .storage) && zeroFrom (s .columns) (s .radii) && zeroFrom (s .coefficients) (s .loss)
 
 unfoldable pub lossesUnused : Record → Bool
 lossesUnused r = allBelow 1000 (λ k. usedSlot (isCell (r .site)) k || isZeroℤ (getD (r .losses) k (pos 0)))
@@ -52,11 +39,8 @@ drawdownsHold N vs =
     not (wellTooDeep N vs) && not (tableTooDeep N vs) && allBelow (N .places) (λ p. leZ (drawdown N vs p) (pos drawdownLimit))
 
 -- ---- 14 refuses a record that breaks any of these
-unfoldable pub siteHolds : Site → Bool
-siteHolds s = countsHold s && numbersHold s && radiiHold s && screenHolds s
-
 unfoldable pub valid : Record → Bool
 valid r =
     siteHolds (r .site) && siteUnused (r .site) && coefficientsUnused r && lossesUnused r
-    && coefficientsHold (gridOf r) && eqb (r .«well_storage») (wellStorage (r .site .area))
+    && coefficientsHold (gridOf r) && eqb (r .«well_storage») (wellStorage (r .site .«water_area»))
     && totalsHold (networkOf (gridOf r)) (stateOf r) && drawdownsHold (networkOf (gridOf r)) (stateOf r .losses)

@@ -2,7 +2,6 @@
 --     in-columns         the three columns of the product
 --     column-short       a column, the product of two digits and a third, has two digits; product-short: so has the product
 --     to-words           from the columns to the upper and the lower two digits
--- Assumes nothing.
 use mathlib.Core.Path.{_≡_, sym, ap, ap₂, _∙_}
 use Prim.Native.Nat.{ℕ, _+_, _*_, _/_, _%_, _≤_, _<_}
 use native.Mathlib.Nat.{add-mul, mul-add, mul-assoc, mul-comm, mul-left-comm, add-assoc, add-comm, add-left-comm, mul-le-mul-left, le-of-lt, lt-of-le-of-lt, le-add-right, div-add-mod', mod-lt}

@@ -1,5 +1,4 @@
 -- A word by its halves of 32 bits, as the code takes them, and a number by its two words.
--- Assumes nothing.
 use mathlib.Core.Path.{_≡_, _∙_, ap}
 use Prim.Native.Nat.{ℕ, _+_, _*_, _/_, _%_, _^_}
 use native.Mathlib.Nat.{div-add-mod'}

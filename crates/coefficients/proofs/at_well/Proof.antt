@@ -1,4 +1,4 @@
--- `coefficients::at_well`: 0 in a layer without screen, else C at column 0, where the layer has a cell since there are columns. Assumes nothing.
+-- `coefficients::at_well`: 0 in a layer without screen, else C at column 0, where the layer has a cell since there are columns.
 use mathlib.Core.Path.{_∙_}
 use Rattle.coefficients.proofs.Laws.{no-screen, screen-cell}
 use native.Mathlib.Omega.{arith}

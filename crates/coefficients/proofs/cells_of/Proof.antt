@@ -1,12 +1,12 @@
--- `coefficients::cells_of`: the slots before the loop's place are filled, in each of the three arrays. Assumes nothing.
+-- `coefficients::cells_of`: the slots before the loop's place are filled, in each of the three arrays.
 use mathlib.Core.Path.{_≡_, sym}
 use native.Mathlib.Omega.{arith}
 use Prim.Native.Nat.{_+_, _-_, _/_, _%_, _≤_}
 use lib.ListN.{replicate}
 use Rattle.laws.specs.Fill.{fill, fill-none, fill-more}
 use Rattle.record.specs.Record.{isCell, hasBelow, slots}
-use Rattle.cells.specs.Cells.{acrossOf, downOf, storageOf}
-use Rattle.cells.specs.Worked.{slotOf}
+use Rattle.coefficient_cells.specs.Cells.{acrossOf, downOf, storageOf}
+use Rattle.coefficient_cells.specs.Worked.{slotOf}
 use Rattle.coefficients.proofs.Laws.{filled-whole}
 use Rattle.coefficients.proofs.cells_of.Statement.{statement}
 use Rattle.coefficients.proofs.cells_of.Tie as tie

@@ -1,9 +1,11 @@
 -- `coefficients::coefficients_of` meets its contract: its slots, with capped numbers, pass the test where the scenario's coefficients do.
--- Assumes nothing.
-use mathlib.Core.Path.{sym, _∙_}
+use mathlib.Core.Path.{_≡_, sym, _∙_}
 use native.Mathlib.Omega.{arith}
 use borrow.Author.Tests.{not-true, not-false}
 use Rattle.site.specs.Laws.{counts-hold, numbers-hold}
+use Rattle.coefficient_cells.specs.Worked.{InLimits}
+use Rattle.coefficient_slots.specs.Slots.{coefficientsHold}
+use Rattle.coefficients.specs.Coefficients.{scenarioGrid}
 use Rattle.coefficients.proofs.Held.{judged, taken, refused}
 use Rattle.coefficients.proofs.Laws.{judged-site}
 use Rattle.coefficients.proofs.coefficients_of.Statement.{statement}
@@ -13,42 +15,68 @@ columns-of-requires : tie.Need-columns-of-requires
 columns-of-requires c κs =
     judged-site _ (c .pre .0) (c .pre .1) (c .pre .2)
 
+-- ---- Λ and areas are worked
+
+within : (c : tie.After-columns-of) → InLimits (c .before .args .t1)
+within c = let start = c .before in judged-site _ (start .pre .0) (start .pre .1) (start .pre .2)
+
 screen-of-requires : tie.Need-screen-of-requires
 screen-of-requires c κs =
-    let start = c .before .before .before in
-    (judged-site _ (start .pre .0) (start .pre .1) (start .pre .2), c .before .before .columns-of .ensures .0)
+    let columns = c .before .before in
+    (within columns, columns .columns-of .ensures .0)
+
+abbrev columns-from : tie.After-screen-of → tie.After-columns-of
+columns-from c = c .before .before .before
 
 cells-of-requires : tie.Need-cells-of-requires
 cells-of-requires c κs =
-    let start = c .before .before .before .before .before .before .before in
-    (judged-site _ (start .pre .0) (start .pre .1) (start .pre .2), c .before .before .before .before .before .before .columns-of .ensures .0, c .before .before .before .before .before .before .columns-of .ensures .1)
+    let columns = columns-from (c .before .before .before) in
+    (within columns, columns .columns-of .ensures .0, columns .columns-of .ensures .1)
+
+-- ---- so are C and S, each in its slot
+
+abbrev screen-from : tie.After-cells-of → tie.After-screen-of
+screen-from c = c .before .before .before .before
+
+abbrev cells-from : tie.After-storages → tie.After-cells-of
+cells-from c = c .before .before .before
+
+abbrev slots-from : tie.After-coefficients-hold → tie.After-storages
+slots-from c = c .before .before .before .before .before .before .before
+
+abbrev start-from : tie.After-storages → tie.Start
+start-from c = columns-from (screen-from (cells-from c)) .before
 
 coefficients-hold-requires : tie.Need-coefficients-hold-requires
 coefficients-hold-requires c κs =
-    let start = c .before .before .before .before .before .before .before .before .before .before .before .before .before .before .before .before .before in
+    let start = start-from (c .before .before .before .before .before .before) in
     omega (arith, counts-hold _ (start .pre .0))
+
+-- ---- they are judged
+
+tested : (c : tie.After-coefficients-hold) → c .coefficients-hold .result ≡ coefficientsHold (scenarioGrid (start-from (slots-from c) .args .t1))
+tested c =
+    let cells = cells-from (slots-from c) in
+    c .coefficients-hold .ensures
+    ∙ judged _ (start-from (slots-from c) .pre .0) (screen-from cells .screen-of .ensures) (cells .cells-of .ensures .0) (cells .cells-of .ensures .1) (cells .cells-of .ensures .2)
 
 all-zero-requires : tie.Need-all-zero-requires
 all-zero-requires c κs = tt
 
 returns : tie.Need-returns
 returns c =
-    let start = c .before .before .before .before .before .before .before .before .before .before .before .before .before .before .before .before .before .before .before .before in
-    let cells = c .before .before .before .before .before .before .before .before .before .before .before .before .cells-of .ensures in
-    let test = c .before .before .coefficients-hold .ensures ∙ judged _ (start .pre .0) (c .before .before .before .before .before .before .before .before .before .before .before .before .before .before .before .before .screen-of .ensures) (cells .0) (cells .1) (cells .2) in
-    refused _ (sym test ∙ not-true _ (c .before .if1 .taken)) (c .all-zero .ensures)
+    refused _ (sym (tested (c .before .before)) ∙ not-true _ (c .before .if1 .taken)) (c .all-zero .ensures)
 
 well-storage-requires : tie.Need-well-storage-requires
 well-storage-requires c κs =
-    let start = c .before .before .before .before .before .before .before .before .before .before .before .before .before .before .before .before .before .before .before in
-    omega (arith, numbers-hold _ (start .pre .1) .well)
+    omega (arith, numbers-hold _ (start-from (slots-from (c .before)) .pre .1) .well)
 
 returns-2 : tie.Need-returns-2
 returns-2 c =
-    let start = c .before .before .before .before .before .before .before .before .before .before .before .before .before .before .before .before .before .before .before .before in
-    let cells = c .before .before .before .before .before .before .before .before .before .before .before .before .cells-of .ensures in
-    let test = c .before .before .coefficients-hold .ensures ∙ judged _ (start .pre .0) (c .before .before .before .before .before .before .before .before .before .before .before .before .before .before .before .before .screen-of .ensures) (cells .0) (cells .1) (cells .2) in
-    taken _ (start .pre .0) (c .before .before .before .before .before .before .before .before .before .before .before .before .before .before .before .before .screen-of .ensures) (cells .0) (cells .1) (cells .2) (sym test ∙ not-false _ (c .before .if1 .left)) (c .well-storage .ensures)
+    let test = c .before .before in
+    let cells = cells-from (slots-from test) in
+    taken _ (start-from (slots-from test) .pre .0) (screen-from cells .screen-of .ensures) (cells .cells-of .ensures .0) (cells .cells-of .ensures .1) (cells .cells-of .ensures .2)
+    (sym (tested test) ∙ not-false _ (c .before .if1 .left)) (c .well-storage .ensures)
 
 pub coefficients-of-spec : {M : Type 1} → statement M
 coefficients-of-spec =

@@ -1,12 +1,12 @@
--- `coefficients::screen_of`: the slots before the loop's place are filled. Assumes nothing.
+-- `coefficients::screen_of`: the slots before the loop's place are filled.
 use mathlib.Core.Path.{_≡_, sym}
 use native.Mathlib.Omega.{arith}
 use Prim.Native.Nat.{_-_, _≤_}
 use lib.ListN.{replicate}
 use Rattle.laws.specs.Fill.{fill, fill-none, fill-more}
 use Rattle.record.specs.Record.{hasScreen, layerSlots}
-use Rattle.cells.specs.Cells.{acrossOf}
-use Rattle.cells.specs.Worked.{slotOf}
+use Rattle.coefficient_cells.specs.Cells.{acrossOf}
+use Rattle.coefficient_cells.specs.Worked.{slotOf}
 use Rattle.coefficients.proofs.Laws.{filled-whole}
 use Rattle.coefficients.proofs.screen_of.Statement.{statement}
 use Rattle.coefficients.proofs.screen_of.Tie as tie

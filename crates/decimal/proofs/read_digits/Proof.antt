@@ -7,7 +7,8 @@ use borrow.Author.Needs.{needs}
 use borrow.Author.Tests.{not-true, not-false}
 use lib.ListN.{length, getD, take}
 use lib.Seq.{take-all}
-use Rattle.laws.specs.Every.{every, every-fails}
+use Rattle.laws.specs.Lists.{every}
+use Rattle.laws.specs.Every.{every-fails}
 use Rattle.decimal.specs.Decimal.{isDigit, value}
 use Rattle.decimal.proofs.Prefix.{one-more, value-more, value-fits}
 use Rattle.decimal.proofs.read_digits.Statement.{statement}

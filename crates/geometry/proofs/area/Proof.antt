@@ -1,4 +1,4 @@
--- `geometry::area` meets its contract: the squares are at most 4×10^12. Assumes nothing.
+-- `geometry::area` meets its contract: the squares are at most 4×10^12.
 use mathlib.Core.Path.{_∙_}
 use Prim.Native.Nat.{_*_, _-_, _≤_}
 use native.Mathlib.Omega.{arith}

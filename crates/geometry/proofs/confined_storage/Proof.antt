@@ -1,4 +1,4 @@
--- `geometry::confined_storage` meets its contract. Assumes nothing.
+-- `geometry::confined_storage` meets its contract.
 use mathlib.Core.Path.{sym, ap, _∙_}
 use Prim.Native.Nat.{_/_}
 use native.Mathlib.Nat.{mul-assoc}

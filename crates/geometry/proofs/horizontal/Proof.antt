@@ -1,4 +1,4 @@
--- `geometry::horizontal` meets its contract. Assumes nothing.
+-- `geometry::horizontal` meets its contract.
 use native.Mathlib.Omega.{arith}
 use Rattle.geometry.specs.Geometry.{horizontal}
 use Rattle.geometry.proofs.Laws.{product-fits}

@@ -1,5 +1,4 @@
 -- `geometry::logarithm`: z is at most 2^29 and above 0.
--- Assumes nothing.
 use mathlib.Core.Path.{_≡_, ap}
 use Prim.Native.Nat.{ℕ, _*_, _^_, _≤_, _<_}
 use native.Mathlib.Nat.{div-le-of-le-mul}

@@ -1,5 +1,4 @@
 -- `geometry::series`: the sum so far and the terms that are left make up the whole sum.
--- Assumes nothing.
 use mathlib.Core.Path.{_≡_}
 use Prim.Native.Nat.{_+_, _*_, _-_, _/_, _^_, _≤_}
 use native.Mathlib.Nat.{div-le-self, div-le-of-le-mul}

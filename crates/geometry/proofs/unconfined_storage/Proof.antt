@@ -1,4 +1,4 @@
--- `geometry::unconfined_storage` meets its contract. Assumes nothing.
+-- `geometry::unconfined_storage` meets its contract.
 use mathlib.Core.Path.{ap, _∙_}
 use Prim.Native.Nat.{_*_}
 use native.Mathlib.Nat.{div-one}

@@ -1,4 +1,4 @@
--- `geometry::vertical` meets its contract: the divisor is above 0 where neither conductivity is 0. Assumes nothing.
+-- `geometry::vertical` meets its contract: the divisor is above 0 where neither conductivity is 0.
 use mathlib.Core.Path.{sym, ap, _∙_}
 use Prim.Native.Nat.{_*_}
 use native.Mathlib.Omega.{arith}

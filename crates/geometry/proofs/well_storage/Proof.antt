@@ -1,4 +1,4 @@
--- `geometry::well_storage` meets its contract. Assumes nothing.
+-- `geometry::well_storage` meets its contract.
 use mathlib.Core.Path.{refl}
 use Rattle.geometry.specs.Geometry.{wellStorage}
 use borrow.Author.Needs.{needs}

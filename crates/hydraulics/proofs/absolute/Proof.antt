@@ -1,4 +1,4 @@
--- `hydraulics::absolute` meets its contract: each arm returns what the definition picks there. Assumes nothing.
+-- `hydraulics::absolute` meets its contract: each arm returns what the definition picks there.
 use Rattle.hydraulics.specs.Hydraulics.{absolute}
 use Rattle.hydraulics.proofs.Laws.{zero-is}
 use Rattle.hydraulics.proofs.absolute.Statement.{statement}

@@ -1,5 +1,4 @@
 -- `hydraulics::inflow` meets its contract: |F| is at most 4×10^18, so that F/1000 is at most 4×10^15, which is below 2^53.
--- Assumes nothing.
 use mathlib.Core.Path.{_≡_}
 use Prim.Native.Nat.{_≤_}
 use native.Mathlib.Omega.{arith}
@@ -10,7 +9,7 @@ use mir.Syntax.{w64}
 use mir.Val.{SFits}
 use mir.Facts.{toZ-ofZ}
 use Rattle.laws.specs.Signed.{small-fits, abs-neg}
-use Rattle.network.specs.Limits.{totalLimit}
+use Rattle.limits.specs.Limits.{totalLimit}
 use Rattle.hydraulics.specs.Hydraulics.{float, inflowOf}
 use Rattle.hydraulics.proofs.Laws.{quot-size}
 use Rattle.hydraulics.proofs.inflow.Statement.{statement}

@@ -1,4 +1,4 @@
--- `hydraulics::millionths` meets its contract. Assumes nothing.
+-- `hydraulics::millionths` meets its contract.
 use borrow.Author.Needs.{needs}
 use Rattle.hydraulics.specs.Hydraulics.{millionths}
 use Rattle.hydraulics.proofs.Laws.{million-is}

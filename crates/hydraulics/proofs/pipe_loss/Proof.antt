@@ -1,4 +1,4 @@
--- `hydraulics::pipe_loss` meets its contract: the operations are those of the definition, in its order. Assumes nothing.
+-- `hydraulics::pipe_loss` meets its contract: the operations are those of the definition, in its order.
 use mathlib.Core.Path.{ap, ap₂}
 use borrow.Author.Needs.{needs}
 use Rattle.hydraulics.specs.Hydraulics.{_⊕_, _⊖_, _⊗_, _⊘_, pipeLoss}

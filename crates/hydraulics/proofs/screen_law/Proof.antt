@@ -1,4 +1,4 @@
--- `hydraulics::screen_law` meets its contract, count by count. Assumes nothing.
+-- `hydraulics::screen_law` meets its contract, count by count.
 use mathlib.Core.Path.{sym, ap, ap₂, _∙_}
 use native.Mathlib.Omega.{arith}
 use Rattle.hydraulics.specs.declared.ScreenLaw.the-variants.{Linear, Square}

@@ -1,4 +1,4 @@
--- `hydraulics::screen_loss` meets its contract: each arm is the definition at its law. Assumes nothing.
+-- `hydraulics::screen_loss` meets its contract: each arm is the definition at its law.
 use mathlib.Core.Path.{ap, _∙_}
 use borrow.Author.Needs.{needs}
 use Rattle.hydraulics.specs.Hydraulics.{_⊕_, _⊗_, screenLoss}

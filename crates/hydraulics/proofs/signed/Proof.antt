@@ -1,4 +1,4 @@
--- `hydraulics::signed` meets its contract: the number that the machine reads back from its bits is itself, and it is a float. Assumes nothing.
+-- `hydraulics::signed` meets its contract: the number that the machine reads back from its bits is itself, and it is a float.
 use mathlib.Core.Path.{refl}
 use mir.Facts.{toZ-ofZ}
 use Rattle.hydraulics.specs.Hydraulics.{float}

@@ -1,4 +1,4 @@
--- `hydraulics::velocity` meets its contract. Assumes nothing.
+-- `hydraulics::velocity` meets its contract.
 use borrow.Author.Needs.{needs}
 use Rattle.hydraulics.specs.Hydraulics.{velocity}
 use Rattle.hydraulics.proofs.Laws.{thousand-is}

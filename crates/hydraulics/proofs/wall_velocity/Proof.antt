@@ -1,4 +1,4 @@
--- `hydraulics::wall_velocity` meets its contract: b × R_0 is at most 5×10^9. Assumes nothing.
+-- `hydraulics::wall_velocity` meets its contract: b × R_0 is at most 5×10^9.
 use native.Mathlib.Nat.{mul-le-mul}
 use native.Mathlib.Omega.{arith}
 use Rattle.hydraulics.specs.Hydraulics.{wallVelocity}

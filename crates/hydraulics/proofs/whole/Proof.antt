@@ -1,4 +1,4 @@
--- `hydraulics::whole` meets its contract: a number up to 2^53 is a float, which the cast asks. Assumes nothing.
+-- `hydraulics::whole` meets its contract: a number up to 2^53 is a float, which the cast asks.
 use mathlib.Core.Path.{refl}
 use lib.IntN.{pos}
 use Rattle.hydraulics.specs.Hydraulics.{float}

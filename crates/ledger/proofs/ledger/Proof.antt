@@ -1,11 +1,11 @@
--- Demand 3 over every run. Assumes nothing.
+-- Demand 3 over every run.
 use mathlib.Core.Path.{_≡_, ap, _∙_}
 use mathlib.Core.List.{List}
 use Prim.Native.Nat.{ℕ, _<_}
 use lib.IntN.{pos, _-ℤ_, +ℤ-idl}
 use lib.Signed.{_≤ℤ_, ≤ℤ-refl}
 use Rattle.laws.specs.Integer.{natural}
-use Rattle.laws.specs.Sums.{ifℤ}
+use Rattle.laws.specs.Lists.{ifℤ}
 use Rattle.network.specs.Network.{atRest, drawdown, lossIn}
 use Rattle.network.specs.Kept.{Proper}
 use Rattle.network.specs.laws.Preserve.{loss-in-at-rest, kept-at-rest}
@@ -14,26 +14,27 @@ use Rattle.readings.specs.declared.Amount.{Amount}
 use Rattle.readings.specs.declared.Place.the-variants.{Cell}
 use Rattle.readings.specs.Readings.{numberOf, setOf}
 use Rattle.validity.specs.Laws.{valid-record, valid-proper}
-use Rattle.scenario.specs.Scenario.{startOf}
-use Rattle.beginning.specs.Laws.{Carries, begun}
+use Rattle.scenario.specs.Scenario.{scenarioOf, startOf}
+use Rattle.start_laws.specs.Laws.{Carries, network-is, begun}
 use Rattle.ledger.specs.Calls.{Call, Reply, leftByAll, Run}
 use Rattle.ledger.specs.Ledger.{gridFrom, networkFrom, ledgerOf, acceptedOf, pumpedBy, inSet, netInto, greatest}
 use Rattle.ledger.specs.Promise.{Holds}
-use Rattle.ledger.proofs.Accepted.{Steps, accepted-steps, gained, conserved-over, kept-over, depth-natural, rest-within, greatest-natural, within-over}
+use Rattle.ledger.proofs.AcceptedSteps.{Steps, accepted-steps, gained, conserved-over, kept-over, depth-natural, rest-within, greatest-natural, within-over}
 use Rattle.ledger.proofs.Readings.{same-budget, same-loss, same-depth, cell-place, set-inside, set-loss}
 use Rattle.ledger.proofs.Records.{carries-all, same-outcomes}
+use Rattle.ledger.proofs.Told.{told-all}
 use Rattle.ledger.proofs.ledger.Statement.{statement}
 use Rattle.ledger.proofs.ledger.Tie as tie
 
-module _ (text : List ℕ) (r : Record) (h : Carries (gridFrom text) (atRest (networkFrom text)) r) (calls : List Call) where
+module _ (text : List ℕ) (r : Record) (h : Carries (scenarioOf text) (atRest (networkFrom text)) r) (calls : List Call) where
   proper : Proper (networkFrom text)
-  proper = rw (h .network) at (valid-proper r (valid-record r (h .valid)))
+  proper = rw (network-is h) at (valid-proper r (valid-record r (h .valid)))
 
   steps : Steps (networkFrom text) (atRest (networkFrom text)) (acceptedOf text calls) (ledgerOf text calls)
   unfolding acceptedOf ledgerOf
   steps = accepted-steps (networkFrom text) calls (atRest (networkFrom text))
 
-  end : Carries (gridFrom text) (ledgerOf text calls) (leftByAll r calls)
+  end : Carries (scenarioOf text) (ledgerOf text calls) (leftByAll r calls)
   unfolding ledgerOf
   end = carries-all calls h
 
@@ -55,6 +56,7 @@ module _ (text : List ℕ) (r : Record) (h : Carries (gridFrom text) (atRest (ne
 
   holds : (replies : List Reply) → Run r calls replies → Holds text calls replies (leftByAll r calls)
   holds replies run = record {
+    told = told-all h run;
     outcomes = same-outcomes h run;
     state = end .state;
     accepted = end .valid;

@@ -1,9 +1,9 @@
--- `listing::end_piece` meets its contract. Assumes nothing.
+-- `listing::end_piece` meets its contract.
 use mathlib.Core.Bool.{true}
 use mathlib.Core.List.{[]}
 use native.Mathlib.Omega.{arith}
 use borrow.Author.Needs.{needs}
-use Rattle.lines.specs.Laws.{holds, holds-length}
+use Rattle.listing_lines.specs.Laws.{holds, holds-length}
 use Rattle.listing.specs.Laws.{piece-held}
 use Rattle.listing.proofs.end_piece.Statement.{statement}
 use Rattle.listing.proofs.end_piece.Tie as tie

@@ -1,8 +1,8 @@
--- `listing::header_line` meets its contract. Assumes nothing.
+-- `listing::header_line` meets its contract.
 use native.Mathlib.Omega.{arith}
-use Rattle.lines.specs.Word.{word}
-use Rattle.lines.specs.Lines.{lineFrom}
-use Rattle.lines.specs.Laws.{held-then, holds}
+use Rattle.listing_lines.specs.Word.{word}
+use Rattle.listing_lines.specs.Lines.{lineFrom}
+use Rattle.listing_lines.specs.Laws.{held-then, holds}
 use Rattle.listing.specs.Listing.{headerLine}
 use borrow.Author.Needs.{needs}
 use Rattle.listing.proofs.header_line.Statement.{statement}

@@ -1,9 +1,9 @@
--- `listing::next_entry` meets its contract. Assumes nothing.
+-- `listing::next_entry` meets its contract.
 use mathlib.Core.Path.{sym, _∙_}
 use Prim.Native.Nat.{_+_}
 use native.Mathlib.Numerals.{add-one}
 use borrow.Author.Needs.{needs}
-use Rattle.lines.specs.Laws.{holds-length}
+use Rattle.listing_lines.specs.Laws.{holds-length}
 use Rattle.listing.specs.Laws.{next-end, next-line}
 use Rattle.listing.specs.Printed.{next-past}
 use Rattle.listing.proofs.next_entry.Statement.{statement}

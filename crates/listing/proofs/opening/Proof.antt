@@ -1,6 +1,6 @@
--- `listing::opening` meets its contract. Assumes nothing.
+-- `listing::opening` meets its contract.
 use borrow.Author.Needs.{needs}
-use Rattle.lines.specs.Laws.{holds-length}
+use Rattle.listing_lines.specs.Laws.{holds-length}
 use Rattle.listing.specs.Laws.{opening-taken, opening-refused}
 use Rattle.listing.proofs.opening.Statement.{statement}
 use Rattle.listing.proofs.opening.Tie as tie

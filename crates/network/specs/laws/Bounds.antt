@@ -7,10 +7,9 @@
 --     supply                 a place's V and what leaves it are together at most the pumped total
 --     losses-after           no loss falls below 0
 --     depths-after           the maximum principle, for any M
--- Assumes nothing.
 use mathlib.Core.Path.{_≡_, refl, sym, ap, ap₂, _∙_}
 use mathlib.Core.Bool.{Bool, true, false, not, _&&_, false≢true}
-use mathlib.Core.Logic.{_⊎_, ⊎-elim}
+use mathlib.Core.Logic.{⊎-elim}
 use mathlib.Core.List.{List, List·Memᴰ}
 use Prim.Native.Nat.{ℕ, suc, _+_, _*_, _-_, _/_, _^_, _≤_, _<_, zero-le}
 use native.Mathlib.Decide.{decLt, ℕ-discrete}
@@ -23,11 +22,13 @@ use lib.Signed.{_≤ℤ_, ltZ}
 use borrow.Author.Tests.{eqb-true, leb-true, ltb-true, ltb-false, lt-ltb, eq-eqb, ne-eqb}
 use Rattle.laws.specs.All.{all-at}
 use Rattle.laws.specs.Integer.{plus, minus, abs-le, natural, +ℤ-natural, pos-≤ℤ, ≤ℤ-pos, UpTo, abs-up-to, not-past, no-minus, no-plus, add-diff}
-use Rattle.laws.specs.Sums.{ifℕ, ifℤ, sumℕ, range, ifℕ-zero, ifℤ-pos, sumℕ-le, sumℕ-ext, sumℕ-add, sumℕ-scale, sumℕ-one, sumℕ-pick, sumℤ-ext, sumℤ-pos, sumℤ-natural, mem-range, range-below, none-at}
+use Rattle.laws.specs.Lists.{ifℕ, ifℤ, sumℕ, range}
+use Rattle.laws.specs.Sums.{ifℕ-zero, ifℤ-pos, sumℕ-le, sumℕ-ext, sumℕ-add, sumℕ-scale, sumℕ-one, sumℕ-pick, sumℤ-natural, mem-range, range-below, none-at}
 use Rattle.network.specs.Network.{Face, Network, State, isPlace, lossAt, storageAt, drawdown, inUse, water, crossing, flow, toward, inward, lossIn, fromLastColumn, lossAfter, lossesAfter, conductanceSum, stable, tableTooDeep}
 use Rattle.network.specs.Kept.{OnTable, Proper, Kept}
 use Rattle.network.specs.laws.Ends.{Inside, ends, over-set, leaving, entering, outflow-parts}
 use Rattle.network.specs.laws.Conserve.{loss-after, balanced}
+use Rattle.network.specs.laws.Totals.{size, all-lost}
 use Rattle.network.specs.laws.Water.{in-use, ahead-le, back-le}
 
 module _ (N : Network) (proper : Proper N) (s : State) (kept : Kept N s) where
@@ -69,11 +70,8 @@ module _ (N : Network) (proper : Proper N) (s : State) (kept : Kept N s) where
 
   -- the V of all places are at most the pumped total
   all-losses : sumℕ (range 0 (N .places)) loss ≤ s .pumped
-  unfolding lossIn isPlace ifℤ
-  all-losses = omega (arith, ap natAbs (sym (ap₂ _+ℤ_ total (natural (kept .inflow))) ∙ kept .budget))
-    where
-      total : lossIn N (isPlace N) (s .losses) ≡ pos (sumℕ (range 0 (N .places)) loss)
-      total = sumℤ-ext (range 0 (N .places)) (λ p m. rw (lt-ltb p (N .places) (range-below (N .places) m)) (loss-is p)) ∙ sumℤ-pos (range 0 (N .places)) loss
+  unfolding loss size
+  all-losses = omega (arith, all-lost N s kept)
 
   loss-le : (p : ℕ) → loss p ≤ s .pumped
   loss-le p = elim (decLt p (N .places)) [

@@ -1,7 +1,6 @@
 -- Sums over a grid's list of faces, place by place: a cell's right, left, lower and upper face, the well's faces with the screened layers, the
 -- last column's face in each layer. Each law has two weights, one for a face's end one and one for its end two, so that it serves the water of a
 -- step and the sum of C.
--- Assumes nothing.
 use mathlib.Core.Path.{_≡_, refl, sym, ap, ap₂, _∙_}
 use mathlib.Core.Bool.{Bool, true, false, cond, _&&_}
 use mathlib.Core.List.{[], _∷_, _++_, map, flatMap}
@@ -13,7 +12,8 @@ use lib.Dec.{eqb, ltb, eqb·suc-suc, eqb·zero-suc}
 use lib.IntN.{ℤ, pos, negℤ, _+ℤ_, _-ℤ_}
 use borrow.Author.Tests.{lt-ltb, le-ltb, eq-eqb, ne-eqb}
 use Rattle.laws.specs.Integer.{plus, minus, parts, diff-add}
-use Rattle.laws.specs.Sums.{ifℕ, ifℤ, sumℕ, sumℤ, ifℕ-zero, ifℤ-diff, ifℤ-less, sumℕ-ext, sumℕ-zero, sumℕ-add, sumℕ-append, sumℕ-map, sumℕ-flatMap, sumℤ-diff, sumℕ-pick, range-mem, range-below}
+use Rattle.laws.specs.Lists.{ifℕ, ifℤ, sumℕ, sumℤ}
+use Rattle.laws.specs.Sums.{ifℕ-zero, ifℤ-diff, ifℤ-less, sumℕ-ext, sumℕ-zero, sumℕ-add, sumℕ-append, sumℕ-map, sumℕ-flatMap, sumℤ-diff, sumℕ-pick, range-mem, range-below}
 use Rattle.network.specs.Network.{Face, isPlace, outflow, toward, inward, conductanceSum}
 use Rattle.network.specs.Grid.{Grid, storedColumns, layersOf, upperLayers, placeCount, place, acrossFace, downFace, screenFaces, facesOf, networkOf}
 use Rattle.network.specs.laws.Ends.{ends, leaving, entering, outflow-parts}

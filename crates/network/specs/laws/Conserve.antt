@@ -1,5 +1,4 @@
 -- One step conserves water: the storage loss of a set rises by what is pumped from it, less the net water in over its border.
--- Assumes nothing.
 use mathlib.Core.Path.{_≡_, refl, sym, ap, ap₂, _∙_}
 use mathlib.Core.Bool.{Bool, true, false}
 use mathlib.Core.List.{List}
@@ -9,7 +8,8 @@ use lib.Dec.{eqb}
 use lib.IntN.{ℤ, pos, negℤ, _+ℤ_, _-ℤ_, +ℤ-invr, -ℤ-+ℤ-cancel}
 use borrow.Author.Tests.{ltb-true, lt-ltb}
 use Rattle.laws.specs.Integer.{plus, minus, parts, regroup, diff-neg}
-use Rattle.laws.specs.Sums.{ifℕ, ifℤ, sumℕ, range, ifℕ-add, ifℤ-add, ifℤ-pos, ifℤ-diff, sumℕ-ext, sumℕ-add, sumℤ-ext, sumℤ-add, sumℤ-diff, range-below, getD-map-range}
+use Rattle.laws.specs.Lists.{ifℕ, ifℤ, sumℕ, range}
+use Rattle.laws.specs.Sums.{ifℕ-add, ifℤ-add, ifℤ-pos, ifℤ-diff, sumℕ-ext, sumℕ-add, sumℤ-ext, sumℤ-add, sumℤ-diff, range-below, getD-map-range}
 use Rattle.network.specs.Network.{Face, Network, State, isPlace, lossAt, flow, toward, inward, lossIn, lossAfter, lossesAfter, fromLastColumn}
 use Rattle.network.specs.laws.Ends.{Inside, at-one, over-set, leaving, entering, outflow-parts}
 

@@ -2,7 +2,6 @@
 --     ends g h p           what each face counts at p
 --     over-set             such sums, added over the places of a set
 --     leaving, entering    water that leaves a place over its faces and water that enters it, kept apart
--- Assumes nothing.
 use mathlib.Core.Path.{_≡_, refl, ap₂, _∙_}
 use mathlib.Core.Bool.{Bool, true, false}
 use Prim.Native.Nat.{ℕ, _+_, _<_, zero-le}
@@ -11,7 +10,8 @@ use lib.Dec.{eqb}
 use lib.IntN.{ℤ, pos, _+ℤ_, _-ℤ_}
 use borrow.Author.Tests.{eqb-true}
 use Rattle.laws.specs.Integer.{plus, minus, parts, diff-add}
-use Rattle.laws.specs.Sums.{ifℕ, ifℤ, sumℕ, range, ifℕ-add, ifℕ-swap, ifℕ-sum, ifℤ-diff, ifℤ-less, sumℕ-ext, sumℕ-zero, sumℕ-add, sumℕ-swap, sumℕ-pick, sumℤ-diff}
+use Rattle.laws.specs.Lists.{ifℕ, ifℤ, sumℕ, range}
+use Rattle.laws.specs.Sums.{ifℕ-add, ifℕ-swap, ifℕ-sum, ifℤ-diff, ifℤ-less, sumℕ-ext, sumℕ-zero, sumℕ-add, sumℕ-swap, sumℕ-pick, sumℤ-diff}
 use Rattle.network.specs.Network.{Face, Network, outflow}
 
 -- a set holds places only

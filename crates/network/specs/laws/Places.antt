@@ -3,7 +3,6 @@
 --     by-place                  what holds of the well and of each cell holds of every place
 --     place-is                  a number is a cell's only for its layer and column
 --     one-per-place             a list with one entry for each place, by its entries
--- Assumes nothing.
 use mathlib.Core.Path.{_≡_, refl, sym, ap, subst, _∙_}
 use mathlib.Core.Bool.{false, _&&_, and-false}
 use mathlib.Core.List.{List, map, flatMap}
@@ -16,7 +15,8 @@ use lib.Dec.{eqb, ltb}
 use lib.ListN.{length, getD, length-map, length-append, List·getD-append}
 use lib.Seq.{getD-append-add, ext-getD}
 use borrow.Author.Tests.{lt-ltb, le-ltb, eq-eqb, ne-eqb}
-use Rattle.laws.specs.Sums.{range, getD-map-range, length-range}
+use Rattle.laws.specs.Lists.{range}
+use Rattle.laws.specs.Sums.{getD-map-range, length-range}
 use Rattle.network.specs.Grid.{Grid, storedColumns, layersOf, placeCount, place, onePerPlace}
 
 -- ---- lists of equal rows

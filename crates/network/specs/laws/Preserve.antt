@@ -1,5 +1,4 @@
 -- An accepted step on a proper network leads from a kept state to a kept one; the state at rest is kept.
--- Assumes nothing.
 use mathlib.Core.Path.{_≡_, ap, _∙_}
 use mathlib.Core.Bool.{Bool, true, false}
 use Prim.Native.Nat.{ℕ, zero, suc, _+_, _*_, _≤_, zero-le}
@@ -13,22 +12,23 @@ use borrow.Author.Tests.{ltb-false, le-ltb, not-false}
 use Rattle.laws.specs.Fill.{getD-same}
 use Rattle.laws.specs.Refusal.{passed}
 use Rattle.laws.specs.Integer.{pos-≤ℤ, ≤ℤ-up, +ℤ-natural, not-past}
-use Rattle.laws.specs.Sums.{ifℕ, range, ifℕ-zero, ifℤ-pos, sumℕ-zero, sumℤ-ext, sumℤ-pos, length-range, or-no, none}
-use Rattle.network.specs.Limits.{totalLimit, drawdownLimit}
+use Rattle.laws.specs.Lists.{ifℕ, range}
+use Rattle.laws.specs.Sums.{ifℕ-zero, ifℤ-pos, sumℕ-zero, sumℤ-ext, sumℤ-pos, length-range, or-no, none}
+use Rattle.limits.specs.Limits.{totalLimit, drawdownLimit}
 use Rattle.network.specs.Network.{Network, State, atRest, isPlace, lossAt, drawdown, lossIn, lossAfter, lossesAfter, moved, rateOrLengthOut, stable, unstable, totalsPass, wellTooDeep, tableTooDeep, stepTests, refusal}
 use Rattle.network.specs.Kept.{Proper, Kept}
 use Rattle.network.specs.laws.Conserve.{balanced}
 use Rattle.network.specs.laws.Bounds.{inflow-rises, losses-after, depths-after}
 
 -- none of the conditions forbids the step
-pub record Accepted (N : Network) (s : State) (rate dt : ℕ) : Type 0 where
+pub record Permitted (N : Network) (s : State) (rate dt : ℕ) : Type 0 where
   pub rateAndLength : rateOrLengthOut rate dt ≡ false
   pub steady : unstable N dt ≡ false
   pub totals : totalsPass s rate dt ≡ false
   pub well : wellTooDeep N (lossesAfter N (s .losses) rate dt) ≡ false
   pub table : tableTooDeep N (lossesAfter N (s .losses) rate dt) ≡ false
 
-pub accepted : (N : Network) (s : State) (rate dt : ℕ) → refusal N s rate dt ≡ 0 → Accepted N s rate dt
+pub accepted : (N : Network) (s : State) (rate dt : ℕ) → refusal N s rate dt ≡ 0 → Permitted N s rate dt
 unfolding refusal stepTests
 accepted N s rate dt e =
     let after7 = passed (rateOrLengthOut rate dt) 6 _ e in
@@ -55,7 +55,7 @@ kept-moved N proper s kept rate dt e = record {
   ];
 }
   where
-    a : Accepted N s rate dt
+    a : Permitted N s rate dt
     a = accepted N s rate dt e
 
     steady : stable N dt ≡ true

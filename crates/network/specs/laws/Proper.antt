@@ -1,5 +1,4 @@
 -- The faces of a grid, one by one; a grid's network is proper.
--- Assumes nothing.
 use mathlib.Core.Path.{_≡_, refl, sym, ap, subst, _∙_}
 use mathlib.Core.Bool.{Bool, true, false, cond, true≢false, false≢true}
 use mathlib.Core.Logic.{_⊎_, inl, inr, ⊎-elim}
@@ -11,7 +10,7 @@ use native.Mathlib.Omega.{arith}
 use lib.Dec.{eqb}
 use borrow.Author.Tests.{eqb-true}
 use Rattle.laws.specs.Sums.{mem-range, range-mem, mem-flatMap, flatMap-mem}
-use Rattle.network.specs.Limits.{drawdownLimit}
+use Rattle.limits.specs.Limits.{drawdownLimit}
 use Rattle.network.specs.Network.{Face, storageAt}
 use Rattle.network.specs.Grid.{Grid, storedColumns, layersOf, upperLayers, placeCount, place, onePerPlace, acrossFace, downFace, screenFaces, facesOf, networkOf}
 use Rattle.network.specs.Kept.{OnTable, Proper}

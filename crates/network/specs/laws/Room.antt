@@ -1,6 +1,5 @@
 -- Why no sum of a step passes the word: on a grid the water of a place's faces can be added to its loss one face after another, and the last
 -- column's water to the inflow total, with every sum on the way between 0 and the pumped total.
--- Assumes nothing.
 use mathlib.Core.Path.{_≡_, refl, sym, _∙_}
 use mathlib.Core.Bool.{true}
 use mathlib.Core.List.{[], _∷_, map}
@@ -10,7 +9,8 @@ use lib.Dec.{ltb}
 use lib.IntN.{ℤ, pos, negℤ, _+ℤ_, +ℤ-idr}
 use lib.Signed.{_≤ℤ_}
 use Rattle.laws.specs.Integer.{plus, minus, parts, plus-neg, minus-neg, nonneg-minus, natural, ≤ℤ-pos}
-use Rattle.laws.specs.Sums.{ifℤ, sumℕ, sumℕ-ext, sumℕ-map, sumℕ-zero, sumℤ-diff, plus-if, minus-if, Room}
+use Rattle.laws.specs.Lists.{ifℤ, sumℕ}
+use Rattle.laws.specs.Sums.{sumℕ-ext, sumℕ-map, sumℕ-zero, sumℤ-diff, plus-if, minus-if, Room}
 use Rattle.network.specs.Network.{Face, State, isPlace, lossAt, flow, fromLastColumn, stable}
 use Rattle.network.specs.Grid.{Grid, layersOf, place, acrossFace, downFace, facesOf, networkOf}
 use Rattle.network.specs.Kept.{Proper, Kept}

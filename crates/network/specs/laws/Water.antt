@@ -1,5 +1,4 @@
 -- C in use is between 0 and C, and water that it lets through in Δt. Every bound on a step rests on in-use alone.
--- Assumes nothing.
 use mathlib.Core.Path.{_≡_, refl, sym}
 use mathlib.Core.Bool.{Bool, true, false, cond}
 use Prim.Native.Nat.{ℕ, _+_, _*_, _-_, _/_, _^_, _≤_, zero-le}

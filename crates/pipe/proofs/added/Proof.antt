@@ -1,4 +1,4 @@
--- `pipe::added`: what is left to add are the screened layers above k, up to `layer`. Assumes nothing.
+-- `pipe::added`: what is left to add are the screened layers above k, up to `layer`.
 use mathlib.Core.Path.{_≡_, refl, sym, ap, _∙_}
 use Prim.Native.Nat.{_≤_, _<_, _+_, _-_}
 use native.Mathlib.Omega.{arith}

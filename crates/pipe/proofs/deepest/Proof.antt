@@ -1,4 +1,4 @@
--- `pipe::deepest`: no layer below k is screened, and some layer from k up to `layer` is. Assumes nothing.
+-- `pipe::deepest`: no layer below k is screened, and some layer from k up to `layer` is.
 use mathlib.Core.Path.{_≡_, sym, ap, _∙_}
 use mathlib.Core.Bool.{true}
 use Prim.Native.Nat.{_≤_, _<_, _+_, _-_}

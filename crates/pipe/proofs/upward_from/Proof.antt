@@ -1,4 +1,4 @@
--- `pipe::upward_from`: no layer from k down to `layer` is screened. Assumes nothing.
+-- `pipe::upward_from`: no layer from k down to `layer` is screened.
 use mathlib.Core.Path.{_≡_, refl, sym, ap, _∙_}
 use Prim.Native.Nat.{_≤_, _+_, _-_}
 use native.Mathlib.Omega.{arith}

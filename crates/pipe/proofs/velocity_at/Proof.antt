@@ -1,4 +1,4 @@
--- `pipe::velocity_at` meets its contract: E of the layers from the deepest, and v of E. Assumes nothing.
+-- `pipe::velocity_at` meets its contract: E of the layers from the deepest, and v of E.
 use mathlib.Core.Path.{sym, ap, _∙_}
 use native.Mathlib.Omega.{arith}
 use Rattle.site.specs.Laws.{counts-hold}
@@ -26,7 +26,7 @@ returns : tie.Need-returns
 unfolding velocityAt
 returns c =
     let s = c .before .before .before .before .before .before .before in
-    c .velocity .ensures ∙ ap (λ x. velocity x (s .args .t1 .radius)) (c .before .added .ensures ∙ sym (added-from (eOf (s .args .inflows .now)) _ (c .before .before .before .before .deepest .ensures .2)))
+    c .velocity .ensures ∙ ap (λ x. velocity x (s .args .t1 .«well_radius»)) (c .before .added .ensures ∙ sym (added-from (eOf (s .args .inflows .now)) _ (c .before .before .before .before .deepest .ensures .2)))
 
 pub velocity-at-spec : {M : Type 1} → statement M
 velocity-at-spec = tie.close (tie.spec deepest-requires added-requires velocity-requires returns)

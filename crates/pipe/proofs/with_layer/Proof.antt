@@ -1,4 +1,4 @@
--- `pipe::with_layer` meets its contract. Assumes nothing.
+-- `pipe::with_layer` meets its contract.
 use borrow.Author.Tests.{eq-eqb, ne-eqb}
 use Rattle.pipe.proofs.with_layer.Statement.{statement}
 use Rattle.pipe.proofs.with_layer.Tie as tie

@@ -1,4 +1,4 @@
--- `record::all_zero` meets its contract: each array is a repeat of zeros. Assumes nothing.
+-- `record::all_zero` meets its contract: each array is a repeat of zeros.
 use mathlib.Core.Path.{refl}
 use Rattle.record.specs.Record.{zeroSite, zeroRecord}
 use Rattle.record.proofs.all_zero.Statement.{statement}

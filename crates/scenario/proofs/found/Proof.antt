@@ -1,4 +1,4 @@
--- `scenario::found` meets its contract. Assumes nothing.
+-- `scenario::found` meets its contract.
 use mathlib.Core.Path.{sym, ap, _∙_}
 use native.Mathlib.Omega.{arith}
 use Rattle.scenario.specs.declared.Pumping.{Pumping}

@@ -1,4 +1,4 @@
--- `scenario::refused` meets its contract. Assumes nothing.
+-- `scenario::refused` meets its contract.
 use borrow.Author.Needs.{needs}
 use Rattle.scenario.proofs.refused.Statement.{statement}
 use Rattle.scenario.proofs.refused.Tie as tie

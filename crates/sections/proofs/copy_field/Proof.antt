@@ -1,4 +1,4 @@
--- `sections::copy_field` meets its contract: after i turns the first i places hold their numbers. Assumes nothing.
+-- `sections::copy_field` meets its contract: after i turns the first i places hold their numbers.
 use mathlib.Core.Path.{_≡_, refl, sym}
 use Prim.Native.Nat.{_*_, _-_, _≤_}
 use native.Mathlib.Nat.{mul-le-mul, le-of-lt, le-trans}

@@ -1,4 +1,4 @@
--- `sections::entries` meets its contract. Assumes nothing.
+-- `sections::entries` meets its contract.
 use native.Mathlib.Omega.{arith}
 use Rattle.sections.proofs.Places.{places, entries-read}
 use Rattle.sections.proofs.entries.Statement.{statement}

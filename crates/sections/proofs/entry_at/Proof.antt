@@ -1,4 +1,4 @@
--- `sections::entry_at` meets its contract. Assumes nothing.
+-- `sections::entry_at` meets its contract.
 use Prim.Native.Nat.{_+_, _*_, _≤_, _<_}
 use native.Mathlib.Omega.{arith}
 use Rattle.sections.specs.Sections.{entriesOf, entryAt}

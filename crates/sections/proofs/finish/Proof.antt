@@ -1,4 +1,4 @@
--- `sections::finish` meets its contract. Assumes nothing.
+-- `sections::finish` meets its contract.
 use native.Mathlib.Omega.{arith}
 use lib.ListN.{length}
 use borrow.Author.Needs.{needs}

@@ -1,5 +1,4 @@
 -- `sections::judge` meets its contract: the three tests of the section are walked as the code goes.
--- Assumes nothing.
 use mathlib.Core.Path.{refl, sym, _∙_}
 use Prim.Native.Nat.{_*_, _≤_}
 use native.Mathlib.Nat.{mul-le-mul-left, mul-le-mul}

@@ -1,18 +1,18 @@
 -- `sections::layout_of` meets its contract: section by section, the tests so far have come to what the code holds, and the place of the
--- next count is near enough to the front to be read. Assumes nothing.
+-- next count is near enough to the front to be read.
 use mathlib.Core.Path.{_≡_, refl, sym, _∙_}
 use mathlib.Core.Bool.{true}
-use mathlib.Core.List.{[]}
+use mathlib.Core.List.{List, []}
 use Prim.Native.Nat.{ℕ, _≤_}
 use native.Mathlib.Omega.{arith}
 use lib.Dec.{eqb}
 use lib.ListN.{getD}
 use borrow.Author.Needs.{needs}
 use borrow.Author.Tests.{leb-true, eqb-true}
-use Rattle.laws.specs.Every.{every}
-use Rattle.laws.specs.Refusal.{first, numbered}
-use Rattle.site.specs.Limits.{layerCount, columnCount, coefficientCount}
-use Rattle.sections.specs.Sections.{wellCount, entryCount, fromColumns, fromWell, fromLoss, fromPumping, leftOver, formTests}
+use Rattle.laws.specs.Lists.{every, first}
+use Rattle.laws.specs.Refusal.{numbered}
+use Rattle.limits.specs.Limits.{layerPlaces, columnPlaces, coefficientPlaces, entryLimit, layerCount, columnCount, coefficientCount, wellCount, entryCount}
+use Rattle.sections.specs.Sections.{fromColumns, fromWell, fromLoss, fromPumping, leftOver, formTests}
 use Rattle.sections.specs.Reading.{Passed}
 use Rattle.sections.specs.Laws.{between-most}
 use Rattle.sections.proofs.Judging.{unrefused}
@@ -20,34 +20,44 @@ use Rattle.sections.proofs.Places.{count-read}
 use Rattle.sections.proofs.layout_of.Statement.{statement}
 use Rattle.sections.proofs.layout_of.Tie as tie
 
+-- the numbers, where one section has been judged, two, three
+abbrev numbers-1 : tie.After-judge → List ℕ
+numbers-1 c = c .before .before .before .args .values .now
+
+abbrev numbers-2 : tie.After-judge2 → List ℕ
+numbers-2 c = numbers-1 (c .before .before .before)
+
+abbrev numbers-3 : tie.After-judge3 → List ℕ
+numbers-3 c = numbers-2 (c .before .before)
+
 -- the counts that pass
 abbrev four : tie.After-well-numbers → ℕ
-four c = getD (c .before .before .before .before .before .before .before .args .values .now) (c .before .judge2 .result .next) 0
+four c = getD (numbers-2 (c .before)) (c .before .judge2 .result .next) 0
 
-few-layers : (c : tie.After-layer-count) → c .layer-count .result ≡ true → getD (c .before .before .args .values .now) 0 0 ≤ 20
-few-layers c e = between-most 2 20 _ (sym (c .layer-count .ensures) ∙ e)
+few-layers : (c : tie.After-layer-count) → c .layer-count .result ≡ true → getD (c .before .before .args .values .now) 0 0 ≤ layerPlaces
+few-layers c e = between-most 2 layerPlaces _ (sym (c .layer-count .ensures) ∙ e)
 
-few-columns : (c : tie.After-column-count) → c .column-count .result ≡ true → getD (c .before .before .before .before .before .args .values .now) (c .before .before .judge .result .next) 0 ≤ 50
-few-columns c e = between-most 2 50 _ (sym (c .column-count .ensures) ∙ e)
+few-columns : (c : tie.After-column-count) → c .column-count .result ≡ true → getD (numbers-1 (c .before .before)) (c .before .before .judge .result .next) 0 ≤ columnPlaces
+few-columns c e = between-most 2 columnPlaces _ (sym (c .column-count .ensures) ∙ e)
 
 four-numbers : (c : tie.After-well-numbers) → eqb (four c) 4 ≡ true → four c ≤ 4
 four-numbers c e = omega (arith, eqb-true (four c) 4 e)
 
-few-coefficients : (c : tie.After-coefficient-count) → c .coefficient-count .result ≡ true → getD (c .before .before .before .before .before .before .before .before .before .before .args .values .now) (c .before .before .judge3 .result .next) 0 ≤ 2
-few-coefficients c e = leb-true _ 2 (sym (c .coefficient-count .ensures) ∙ e)
+few-coefficients : (c : tie.After-coefficient-count) → c .coefficient-count .result ≡ true → getD (numbers-3 (c .before .before)) (c .before .before .judge3 .result .next) 0 ≤ coefficientPlaces
+few-coefficients c e = leb-true _ coefficientPlaces (sym (c .coefficient-count .ensures) ∙ e)
 
 -- the places of the counts
 columns-near : (c : tie.After-judge) → c .judge .result .next ≤ 101
-columns-near c = c .judge .ensures .place 20 (few-layers (c .before))
+columns-near c = c .judge .ensures .place layerPlaces (few-layers (c .before))
 
 well-near : (c : tie.After-judge2) → c .judge2 .result .next ≤ 152
-well-near c = omega (arith, columns-near (c .before .before .before), c .judge2 .ensures .place 50 (few-columns (c .before)))
+well-near c = omega (arith, columns-near (c .before .before .before), c .judge2 .ensures .place columnPlaces (few-columns (c .before)))
 
 loss-near : (c : tie.After-judge3) → c .judge3 .result .next ≤ 157
 loss-near c = omega (arith, well-near (c .before .before), c .judge3 .ensures .place 4 (four-numbers (c .before)))
 
 pumping-near : (c : tie.After-judge4) → c .judge4 .result .next ≤ 160
-pumping-near c = omega (arith, loss-near (c .before .before .before), c .judge4 .ensures .place 2 (few-coefficients (c .before)))
+pumping-near c = omega (arith, loss-near (c .before .before .before), c .judge4 .ensures .place coefficientPlaces (few-coefficients (c .before)))
 
 element-copy-out-layers : tie.Need-element-copy-out-layers
 element-copy-out-layers c = search needs
@@ -102,7 +112,7 @@ entry-count-requires c κs = search needs
 
 judge-requires-5 : tie.Need-judge-requires-5
 judge-requires-5 c κs =
-    (omega (arith, pumping-near (c .before .before)), omega arith, λ e. leb-true _ 500 (sym (c .entry-count .ensures) ∙ e))
+    (omega (arith, pumping-near (c .before .before)), omega arith, λ e. leb-true _ entryLimit (sym (c .entry-count .ensures) ∙ e))
 
 finish-requires : tie.Need-finish-requires
 finish-requires c κs = search needs

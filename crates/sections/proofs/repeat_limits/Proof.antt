@@ -1,5 +1,4 @@
 -- `sections::repeat_limits` meets its contract: what was not tested fails with the first test.
--- Assumes nothing.
 use borrow.Author.Tests.{le-leb, lt-leb}
 use Rattle.sections.proofs.repeat_limits.Statement.{statement}
 use Rattle.sections.proofs.repeat_limits.Tie as tie

@@ -1,4 +1,4 @@
--- `sections::repeats_hold` meets its contract: the repeats of the first i entries are within their limits. Assumes nothing.
+-- `sections::repeats_hold` meets its contract: the repeats of the first i entries are within their limits.
 use mathlib.Core.Path.{_≡_, sym, ap, _∙_}
 use mathlib.Core.Bool.{true}
 use Prim.Native.Nat.{ℕ, _+_, _*_, _-_, _≤_, _<_}
@@ -8,7 +8,8 @@ use borrow.Author.Count.{below-more}
 use borrow.Author.Tests.{not-true, not-false}
 use Rattle.laws.specs.Every.{every-fails}
 use Rattle.laws.specs.Pointwise.{every-from}
-use Rattle.sections.specs.Sections.{repeatLimits, entriesOf, repeatsHold}
+use Rattle.limits.specs.Limits.{numberPlaces, repeatLimits}
+use Rattle.sections.specs.Sections.{entriesOf, repeatsHold}
 use Rattle.sections.specs.Laws.{counts-most, length-field}
 use Rattle.sections.proofs.Places.{form, places, entries-read, repeats-read}
 use Rattle.sections.proofs.repeats_hold.Statement.{statement}
@@ -21,7 +22,7 @@ abbrev μ-loop : tie.MeasureT-loop
 μ-loop values pumping n i₀ i = n - i
 
 -- the entry is near enough to the front
-near : (c : tie.In-loop Inv-loop μ-loop) → c .before .before .before .args .layout .pumping + 3 + 3 * c .before .loop .i < 1662
+near : (c : tie.In-loop Inv-loop μ-loop) → c .before .before .before .args .layout .pumping + 3 + 3 * c .before .loop .i < numberPlaces
 unfolding entriesOf
 near c =
     let r = c .before .before .before .pre .1 in

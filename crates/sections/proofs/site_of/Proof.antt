@@ -1,4 +1,4 @@
--- `sections::site_of` meets its contract: each field is a copy of its section's numbers. Assumes nothing.
+-- `sections::site_of` meets its contract: each field is a copy of its section's numbers.
 use native.Mathlib.Omega.{arith}
 use borrow.Author.Needs.{needs}
 use Rattle.sections.specs.Laws.{Most, counts-most}
@@ -10,6 +10,13 @@ use Rattle.sections.proofs.site_of.Tie as tie
 known : (s : tie.Start) → Places (s .args .layout) × Counts (s .args .values .now) (s .args .layout) (s .pre .0) × Most (s .pre .0)
 known s = (places (s .pre .1), counts-read (s .pre .1), counts-most (form (s .pre .1)))
 
+-- the three sections of single numbers have been read, then the layers' five fields
+abbrev from-sections : tie.After-section-of3 → tie.Start
+from-sections c = c .before .before .before
+
+abbrev from-layers : tie.After-layer-field5 → tie.Start
+from-layers c = from-sections (c .before .before .before .before .before)
+
 section-of-requires : tie.Need-section-of-requires
 section-of-requires c κs = omega (arith, known c)
 
@@ -20,28 +27,28 @@ section-of-requires-3 : tie.Need-section-of-requires-3
 section-of-requires-3 c κs = omega (arith, known (c .before .before))
 
 layer-field-requires : tie.Need-layer-field-requires
-layer-field-requires c κs = omega (arith, known (c .before .before .before))
+layer-field-requires c κs = omega (arith, known (from-sections c))
 
 layer-field-requires-2 : tie.Need-layer-field-requires-2
-layer-field-requires-2 c κs = omega (arith, known (c .before .before .before .before))
+layer-field-requires-2 c κs = omega (arith, known (from-sections (c .before)))
 
 layer-field-requires-3 : tie.Need-layer-field-requires-3
-layer-field-requires-3 c κs = omega (arith, known (c .before .before .before .before .before))
+layer-field-requires-3 c κs = omega (arith, known (from-sections (c .before .before)))
 
 layer-field-requires-4 : tie.Need-layer-field-requires-4
-layer-field-requires-4 c κs = omega (arith, known (c .before .before .before .before .before .before))
+layer-field-requires-4 c κs = omega (arith, known (from-sections (c .before .before .before)))
 
 layer-field-requires-5 : tie.Need-layer-field-requires-5
-layer-field-requires-5 c κs = omega (arith, known (c .before .before .before .before .before .before .before))
+layer-field-requires-5 c κs = omega (arith, known (from-sections (c .before .before .before .before)))
 
 element-copy-out-t16 : tie.Need-element-copy-out-t16
 element-copy-out-t16 c = search needs
 
 mul-t17 : tie.Need-mul-t17
-mul-t17 c = omega (arith, known (c .before .before .before .before .before .before .before .before .before))
+mul-t17 c = omega (arith, known (from-layers (c .before)))
 
 element-copy-out-t20 : tie.Need-element-copy-out-t20
-element-copy-out-t20 c = omega (arith, known (c .before .before .before .before .before .before .before .before .before))
+element-copy-out-t20 c = omega (arith, known (from-layers (c .before)))
 
 array-read-t23 : tie.Need-array-read-t23
 array-read-t23 c = search needs
@@ -56,10 +63,10 @@ array-read-t32 : tie.Need-array-read-t32
 array-read-t32 c = search needs
 
 mul-t33 : tie.Need-mul-t33
-mul-t33 c = omega (arith, known (c .before .before .before .before .before .before .before .before .before .before))
+mul-t33 c = omega (arith, known (from-layers (c .before .before)))
 
 element-copy-out-t36 : tie.Need-element-copy-out-t36
-element-copy-out-t36 c = omega (arith, known (c .before .before .before .before .before .before .before .before .before .before))
+element-copy-out-t36 c = omega (arith, known (from-layers (c .before .before)))
 
 array-read-t39 : tie.Need-array-read-t39
 array-read-t39 c = search needs

@@ -1,4 +1,4 @@
--- `site::at_most`: every number before the loop's place is at most the limit. Assumes nothing.
+-- `site::at_most`: every number before the loop's place is at most the limit.
 use mathlib.Core.Path.{_≡_, sym}
 use mathlib.Core.Bool.{true}
 use Prim.Native.Nat.{_≤_, _-_}
@@ -6,7 +6,8 @@ use native.Mathlib.Omega.{arith}
 use borrow.Author.Tests.{le-leb, lt-leb}
 use lib.Dec.{leb}
 use lib.ListN.{getD}
-use Rattle.laws.specs.All.{allBelow, all-none, all-more, all-fails}
+use Rattle.laws.specs.Lists.{allBelow}
+use Rattle.laws.specs.All.{all-none, all-more, all-fails}
 use Rattle.site.proofs.at_most.Statement.{statement}
 use Rattle.site.proofs.at_most.Tie as tie
 

@@ -1,4 +1,4 @@
--- `site::coefficients_hold` meets its contract: there are as many slots as a site may have coefficients. Assumes nothing.
+-- `site::coefficients_hold` meets its contract: there are as many slots as a site may have coefficients.
 use native.Mathlib.Omega.{arith}
 use borrow.Author.Needs.{needs}
 use Rattle.site.specs.Laws.{counts-hold}

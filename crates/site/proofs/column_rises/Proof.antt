@@ -1,4 +1,4 @@
--- `site::column_rises` meets its contract: its sums fit, since each radius is within its limits. Assumes nothing.
+-- `site::column_rises` meets its contract: its sums fit, since each radius is within its limits.
 use native.Mathlib.Omega.{arith}
 use borrow.Author.Tests.{leb-true}
 use borrow.Author.Needs.{needs}

@@ -1,4 +1,4 @@
--- `site::columns_hold` meets its contract: there are as many slots as a site may have columns. Assumes nothing.
+-- `site::columns_hold` meets its contract: there are as many slots as a site may have columns.
 use native.Mathlib.Omega.{arith}
 use borrow.Author.Needs.{needs}
 use Rattle.site.specs.Laws.{counts-hold}

@@ -1,4 +1,4 @@
--- `site::layer_holds` meets its contract: the chain of tests is the definition's. Assumes nothing.
+-- `site::layer_holds` meets its contract: the chain of tests is the definition's.
 use borrow.Author.Needs.{needs}
 use Rattle.site.specs.Site.{layerHolds}
 use Rattle.site.proofs.layer_holds.Statement.{statement}

@@ -1,4 +1,4 @@
--- `site::layer_top`: the depth so far is that of the top of layer i, at most 10^6 mm a layer. Assumes nothing.
+-- `site::layer_top`: the depth so far is that of the top of layer i, at most 10^6 mm a layer.
 use mathlib.Core.Path.{_≡_, refl}
 use Prim.Native.Nat.{_≤_, _*_, _-_}
 use native.Mathlib.Omega.{arith}
@@ -45,7 +45,7 @@ loop-again c =
 returns : tie.Need-returns Inv-loop μ-loop
 returns c =
     let e : c .before .before .args .layer ≡ c .before .loop .i = omega arith in
-    rw e (c .before .loop .inv .2)
+    rw e (c .before .loop .inv .2, c .before .loop .inv .3)
 
 pub layer-top-spec : {M : Type 1} → statement M
 layer-top-spec =

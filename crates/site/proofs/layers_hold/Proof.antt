@@ -1,9 +1,11 @@
--- `site::layers_hold`: every layer before the loop's place is within its limits. Assumes nothing.
+-- `site::layers_hold`: every layer before the loop's place is within its limits.
 use mathlib.Core.Path.{_≡_, sym, ap, _∙_}
 use mathlib.Core.Bool.{true}
 use Prim.Native.Nat.{ℕ, _≤_, _-_}
 use native.Mathlib.Omega.{arith}
-use Rattle.laws.specs.All.{allBelow, all-none, all-more, all-fails}
+use Rattle.limits.specs.Limits.{layerPlaces}
+use Rattle.laws.specs.Lists.{allBelow}
+use Rattle.laws.specs.All.{all-none, all-more, all-fails}
 use Rattle.site.specs.Laws.{counts-hold}
 use Rattle.site.specs.Site.{layerAt}
 use Rattle.site.proofs.Laws.{fails, holds}
@@ -11,7 +13,7 @@ use Rattle.site.proofs.layers_hold.Statement.{statement}
 use Rattle.site.proofs.layers_hold.Tie as tie
 
 abbrev Inv-loop : tie.InvT-loop
-Inv-loop site n i₀ i = (n ≤ 20) × (i ≤ n) × (allBelow i (layerAt site) ≡ true)
+Inv-loop site n i₀ i = (n ≤ layerPlaces) × (i ≤ n) × (allBelow i (layerAt site) ≡ true)
 
 abbrev μ-loop : tie.MeasureT-loop
 μ-loop site n i₀ i = n - i
@@ -52,10 +54,14 @@ element-copy-out-layer-holds-5 c = omega arith
 layer-holds-requires : tie.Need-layer-holds-requires Inv-loop μ-loop
 layer-holds-requires c κs = tt
 
+-- the turn in which a layer is tested
+abbrev turn : tie.After-layer-holds Inv-loop μ-loop → tie.In-loop Inv-loop μ-loop
+turn c = c .before .before .before .before .before .before
+
 returns : tie.Need-returns Inv-loop μ-loop
 unfolding layerAt
 returns c =
-    let at = c .before .before .before .before .before .before .before .before in
+    let at = turn (c .before) .before in
     sym (all-fails (layerAt (at .before .args .t1)) _ (at .loop .i) (omega arith) (fails (c .before .layer-holds .ensures) (c .if1 .taken)))
 
 add-i : tie.Need-add-i Inv-loop μ-loop
@@ -67,7 +73,7 @@ loop-less c = omega arith
 loop-again : tie.Need-loop-again Inv-loop μ-loop
 unfolding layerAt
 loop-again c =
-    let at = c .before .before .before .before .before .before .before .before in
+    let at = turn (c .before) .before in
     (omega arith, omega arith, all-more (layerAt (at .before .args .t1)) (at .loop .i) (at .loop .inv .2) (holds (c .before .layer-holds .ensures) (c .if1 .left)))
 
 returns-2 : tie.Need-returns-2 Inv-loop μ-loop

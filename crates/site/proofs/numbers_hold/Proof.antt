@@ -1,4 +1,4 @@
--- `site::numbers_hold` meets its contract: the chain of tests is the definition's. Assumes nothing.
+-- `site::numbers_hold` meets its contract: the chain of tests is the definition's.
 use borrow.Author.Needs.{needs}
 use Rattle.site.specs.Site.{wellHolds, numbersHold}
 use Rattle.site.proofs.numbers_hold.Statement.{statement}

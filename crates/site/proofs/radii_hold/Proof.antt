@@ -1,5 +1,4 @@
 -- `site::radii_hold`: rule 4 holds at every column before the loop's place, whose R_j and u_j = R_(j-1) + R_j the loop has.
--- Assumes nothing.
 use mathlib.Core.Path.{_≡_, refl, sym, _∙_}
 use mathlib.Core.Bool.{true}
 use Prim.Native.Nat.{_≤_, _+_, _-_}
@@ -7,18 +6,13 @@ use native.Mathlib.Numerals.{add-one}
 use native.Mathlib.Omega.{arith}
 use borrow.Author.Tests.{le-leb}
 use lib.ListN.{getD}
-use Rattle.laws.specs.All.{allBelow, all-none, all-more, all-fails}
+use Rattle.laws.specs.Lists.{allBelow}
+use Rattle.laws.specs.All.{all-none, all-more, all-fails}
 use Rattle.site.specs.Laws.{counts-hold, numbers-hold}
 use Rattle.site.specs.Site.{radiiOf, midsection, columnRises, radiiHold}
 use Rattle.site.proofs.Laws.{fails, holds, rises-at}
 use Rattle.site.proofs.radii_hold.Statement.{statement}
 use Rattle.site.proofs.radii_hold.Tie as tie
-
--- Assumes nothing.
-
--- Assumes nothing.
-
--- Assumes nothing.
 
 abbrev Inv-loop : tie.InvT-loop
 Inv-loop site m previous₀ radius₀ j₀ previous radius j =

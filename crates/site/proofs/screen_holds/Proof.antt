@@ -1,4 +1,4 @@
--- `site::screen_holds` meets its contract: the chain of tests is the definition's. Assumes nothing.
+-- `site::screen_holds` meets its contract: the chain of tests is the definition's.
 use native.Mathlib.Omega.{arith}
 use borrow.Author.Needs.{needs}
 use Rattle.site.specs.Site.{isScreened, screenHolds}

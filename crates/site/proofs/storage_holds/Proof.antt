@@ -1,4 +1,4 @@
--- `site::storage_holds` meets its contract in the first layer and below it. Assumes nothing.
+-- `site::storage_holds` meets its contract in the first layer and below it.
 use mathlib.Core.Path.{sym, _∙_}
 use borrow.Author.Needs.{needs}
 use Rattle.site.proofs.Laws.{storage-first, storage-below}

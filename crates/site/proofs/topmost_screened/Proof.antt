@@ -1,4 +1,4 @@
--- `site::topmost_screened`: the search from the top is the search from layer i on. Assumes nothing.
+-- `site::topmost_screened`: the search from the top is the search from layer i on.
 use mathlib.Core.Path.{_≡_, sym, _∙_}
 use Prim.Native.Nat.{_≤_, _-_}
 use native.Mathlib.Omega.{arith}

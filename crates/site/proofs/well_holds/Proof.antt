@@ -1,4 +1,4 @@
--- `site::well_holds` meets its contract: the chain of tests is the definition's. Assumes nothing.
+-- `site::well_holds` meets its contract: the chain of tests is the definition's.
 use borrow.Author.Needs.{needs}
 use Rattle.site.proofs.well_holds.Statement.{statement}
 use Rattle.site.proofs.well_holds.Tie as tie

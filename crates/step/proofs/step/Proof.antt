@@ -1,6 +1,6 @@
--- `step::step` meets its contract: it is the answer of one of many equal steps. Assumes nothing.
+-- `step::step` meets its contract: it is the answer of one of many equal steps.
 use mathlib.Core.Path.{ap, _∙_}
-use Rattle.repeat.specs.Repeat.{answered}
+use Rattle.step.specs.Repeat.{answered}
 use Rattle.step.proofs.Laws.{one-step}
 use Rattle.step.proofs.step.Statement.{statement}
 use Rattle.step.proofs.step.Tie as tie

@@ -72,7 +72,9 @@ returns-3 c =
     (malformed-read _ (sym (sym (told .enum-told .given .1) ∙ read .read .ensures)))
 
 keep-requires : tie.Need-keep-requires Inv-loop μ-loop
-keep-requires c κs = values-length _ _ _ _ (c .before .before .before .before .before .before .before .before .before .loop .inv)
+keep-requires c κs =
+    let test = c .before .before .before .before .before .before in
+    values-length _ _ _ _ (test .before .before .before .loop .inv)
 
 add-count : tie.Need-add-count Inv-loop μ-loop
 add-count c = omega arith

@@ -1,172 +1,159 @@
--- `validity::valid`: the tests one after the other, each under those before it; together they are those of 14. Assumes nothing.
+-- `validity::valid`: the tests one after the other, each under those before it; together they are those of 14.
 use mathlib.Core.Path.{_≡_, sym, _∙_}
-use mathlib.Core.Bool.{true, false}
-use Prim.Native.Nat.{_*_}
+use mathlib.Core.Bool.{true, false, _&&_}
 use native.Mathlib.Omega.{arith}
 use borrow.Author.Needs.{needs}
 use borrow.Author.Tests.{not-true, not-false, eq-eqb, ne-eqb}
-use lib.Dec.{eqb}
-use lib.IntN.{natAbs}
 use mir.Facts.{toZ-ofZ}
 use mir.Syntax.{w64}
 use mir.Val.{toZ, ofZ}
-use Rattle.geometry.specs.Geometry.{wellStorage}
-use Rattle.slots.specs.Held.{slotsHold}
-use Rattle.validity.specs.Held.{lossSlotsHold, totalsAgree, shallow}
-use Rattle.validity.specs.Validity.{siteHolds, siteUnused}
-use Rattle.validity.proofs.Checked.{checked, checked-valid}
-use Rattle.validity.proofs.Laws.{site-counts, site-numbers, slot-natural, well-natural}
+use Rattle.laws.specs.All.{and-left, and-right}
+use Rattle.record.specs.declared.Record.{Record}
+use Rattle.validity.proofs.Checked.{numbersPass, arraysPass, storagePasses, lossesPass, totalsPass, wellPasses, depthsPass, checked, checked-valid, some-layer, area-most, table-most, intake-most, well-stores, cells-store, well-natural}
 use Rattle.validity.proofs.valid.Statement.{statement}
 use Rattle.validity.proofs.valid.Tie as tie
 
--- the signed fields, read back from their bits
-well-back : (c : tie.After-struct-told) → toZ w64 (ofZ w64 (c .before .before .args .t1 .«well_loss»)) ≡ c .before .before .args .t1 .«well_loss»
-well-back c = toZ-ofZ (record { sfits = c .struct-told .given .1 .1 .1 .1 .1 .1 .1 .0 .1 })
+-- ---- the places on the way: after the numbers, the coefficients, the well's storage and the totals, each from the next
+abbrev given : tie.Else1 → Record
+given c = c .before .before .before .before .before .args .t1
 
-inflow-back : (c : tie.After-struct-told2) → toZ w64 (ofZ w64 (c .before .before .before .args .t1 .inflow)) ≡ c .before .before .before .args .t1 .inflow
-inflow-back c = toZ-ofZ (record { sfits = c .struct-told2 .given .1 .1 .1 .1 .1 .1 .1 .1 .1 .0 .1 })
+abbrev numbers : tie.After-coefficients-hold-arg5 → tie.Else1
+numbers c = c .before .before .before .before .before .before .before
 
-totals-tested : (c : tie.After-totals-agree) → let r = c .before .before .before .before .before .before .before .before .before .before .before .before .before .before .before .before .before .before .before .before .before .before .before .before .before .args .t1 in c .totals-agree .result ≡ totalsAgree (r .losses) (r .«well_loss») (r .inflow) (r .pumped) (r .time)
-totals-tested c = rw (well-back (c .before .before .before .before .before .before .before .before .before .before .before .before .before .before .before .before .before .before .before .before .before .before .before), inflow-back (c .before .before .before .before .before .before .before .before .before .before .before .before .before .before .before .before .before .before .before .before .before .before)) at (c .totals-agree .ensures)
+abbrev coefficients : tie.Else3 → tie.Else2
+coefficients c = c .before .before
 
-well-tested : (c : tie.After-shallow) → let r = c .before .before .before .before .before .before .before .before .before .before .before .before .before .before .before .before .before .before .before .before .before .before .before .before .before .before .before .before .args .t1 in c .shallow .result ≡ shallow (1000 * r .site .intake) (natAbs (r .«well_loss»)) (r .«well_storage»)
-well-tested c = rw (rw (well-back (c .before .before .before .before .before .before .before .before .before .before .before .before .before .before .before .before .before .before .before .before .before .before .before .before .before .before)) at (c .before .size .ensures .0)) at (c .shallow .ensures)
+abbrev storage : tie.After-totals-hold → tie.Else3
+storage c = c .before .before .before
 
--- the tests that were passed
-site-passed : (c : tie.Else1) → siteHolds (c .before .before .before .before .before .args .t1 .site) ≡ true
-site-passed c = sym (c .before .site-holds .ensures) ∙ not-false _ (c .if1 .left)
+abbrev totals : tie.After-drawdowns-hold-arg3 → tie.Else4
+totals c = c .before .before .before .before
 
-unused-passed : (c : tie.Else2) → siteUnused (c .before .before .before .before .before .before .before .args .t1 .site) ≡ true
-unused-passed c = sym (c .before .site-unused .ensures) ∙ not-false _ (c .if2 .left)
+-- the record at each
+abbrev given2 : tie.Else2 → Record
+given2 c = given (numbers (c .before .before))
 
-arrays-passed : (c : tie.Else3) → let r = c .before .before .before .before .before .before .before .before .before .before .before .before .before .before .before .before .args .t1 in slotsHold (r .site .layers) (r .site .columns) (r .site .screened) (r .screen) (r .horizontal) (r .vertical) (r .storages) ≡ true
-arrays-passed c = sym (c .before .coefficients-hold .ensures) ∙ not-false _ (c .if3 .left)
+abbrev given3 : tie.Else3 → Record
+given3 c = given2 (coefficients c)
 
-losses-passed : (c : tie.Else4) → let r = c .before .before .before .before .before .before .before .before .before .before .before .before .before .before .before .before .before .before .before .before .args .t1 in lossSlotsHold (r .site .layers) (r .site .columns) (r .losses) ≡ true
-losses-passed c = sym (c .before .loss-slots-hold .ensures) ∙ not-false _ (c .if4 .left)
+abbrev given4 : tie.Else4 → Record
+given4 c = given3 (storage (c .before))
 
-storage-passed : (c : tie.Else5) → let r = c .before .before .before .before .before .before .before .before .before .before .before .before .before .before .before .before .before .before .before .before .before .before .args .t1 in eqb (r .«well_storage») (wellStorage (r .site .area)) ≡ true
-storage-passed c = eq-eqb _ _ (c .if5 .left ∙ c .before .well-storage .ensures)
+-- ---- the signed fields, read back from their bits
+well-back : (c : tie.Else1) → toZ w64 (ofZ w64 (given c .«well_loss»)) ≡ given c .«well_loss»
+well-back c = toZ-ofZ (record { sfits = c .before .before .before .struct-told .given .1 .1 .1 .1 .1 .1 .1 .0 .1 })
 
-totals-passed : (c : tie.Else6) → let r = c .before .before .before .before .before .before .before .before .before .before .before .before .before .before .before .before .before .before .before .before .before .before .before .before .before .before .args .t1 in totalsAgree (r .losses) (r .«well_loss») (r .inflow) (r .pumped) (r .time) ≡ true
-totals-passed c = sym (totals-tested (c .before)) ∙ not-false _ (c .if6 .left)
+inflow-back : (c : tie.Else1) → toZ w64 (ofZ w64 (given c .inflow)) ≡ given c .inflow
+inflow-back c = toZ-ofZ (record { sfits = c .before .before .struct-told2 .given .1 .1 .1 .1 .1 .1 .1 .1 .1 .0 .1 })
 
-well-passed : (c : tie.Else7) → let r = c .before .before .before .before .before .before .before .before .before .before .before .before .before .before .before .before .before .before .before .before .before .before .before .before .before .before .before .before .before .args .t1 in shallow (1000 * r .site .intake) (natAbs (r .«well_loss»)) (r .«well_storage») ≡ true
-well-passed c = sym (well-tested (c .before)) ∙ not-false _ (c .if7 .left)
+-- ---- the tests that were passed
+numbers-passed : (c : tie.Else1) → numbersPass (given c) ≡ true
+numbers-passed c = sym (c .before .numbers-hold .ensures) ∙ not-false _ (c .if1 .left)
 
-site-holds-requires : tie.Need-site-holds-requires
-site-holds-requires c κs = search needs
+numbers-passed2 : (c : tie.Else2) → numbersPass (given2 c) ≡ true
+numbers-passed2 c = numbers-passed (numbers (c .before .before))
+
+arrays-tested : (c : tie.After-coefficients-hold) → c .coefficients-hold .result ≡ arraysPass (given (numbers (c .before)))
+arrays-tested c = c .coefficients-hold .ensures
+
+arrays-passed : (c : tie.Else2) → arraysPass (given2 c) ≡ true
+arrays-passed c = sym (arrays-tested (c .before)) ∙ not-false _ (c .if2 .left)
+
+storage-passed : (c : tie.Else3) → storagePasses (given3 c) ≡ true
+storage-passed c = eq-eqb _ _ (c .if3 .left ∙ c .before .well-storage .ensures)
+
+totals-tested : (c : tie.After-totals-hold) → c .totals-hold .result ≡ (lossesPass (given3 (storage c)) && totalsPass (given3 (storage c)))
+totals-tested c =
+    let at = numbers (coefficients (storage c) .before .before) in
+    rw (well-back at, inflow-back at) at (c .totals-hold .ensures)
+
+totals-passed : (c : tie.Else4) → (lossesPass (given4 c) && totalsPass (given4 c)) ≡ true
+totals-passed c = sym (totals-tested (c .before)) ∙ not-false _ (c .if4 .left)
+
+numbers-hold-requires : tie.Need-numbers-hold-requires
+numbers-hold-requires c κs = search needs
 
 returns : tie.Need-returns
 unfolding checked
 returns c =
     let r = c .before .before .before .before .before .args .t1 in
-    let e : false ≡ checked r = rw (sym (c .before .site-holds .ensures) ∙ not-true _ (c .if1 .taken)) in
+    let e : false ≡ checked r = rw (sym (c .before .numbers-hold .ensures) ∙ not-true _ (c .if1 .taken)) in
     e ∙ checked-valid r
 
-site-unused-requires : tie.Need-site-unused-requires
-site-unused-requires c κs = search needs
+coefficients-hold-requires : tie.Need-coefficients-hold-requires
+coefficients-hold-requires c κs = some-layer (given (numbers c)) (numbers-passed (numbers c))
 
 returns-2 : tie.Need-returns-2
 unfolding checked
 returns-2 c =
-    let r = c .before .before .before .before .before .before .before .args .t1 in
-    let e : false ≡ checked r = rw (site-passed (c .before .before), sym (c .before .site-unused .ensures) ∙ not-true _ (c .if2 .taken)) in
-    e ∙ checked-valid r
+    let at = numbers (c .before .before) in
+    let e : false ≡ checked (given at) = rw (numbers-passed at, sym (arrays-tested (c .before)) ∙ not-true _ (c .if2 .taken)) in
+    e ∙ checked-valid (given at)
 
-coefficients-hold-requires : tie.Need-coefficients-hold-requires
-coefficients-hold-requires c κs = omega (arith, site-counts _ (site-passed (c .before .before .before .before .before .before .before .before .before)) .layers-least)
+well-storage-requires : tie.Need-well-storage-requires
+well-storage-requires c κs = area-most (given2 c) (numbers-passed2 c)
 
 returns-3 : tie.Need-returns-3
 unfolding checked
 returns-3 c =
-    let r = c .before .before .before .before .before .before .before .before .before .before .before .before .before .before .before .before .args .t1 in
-    let e : false ≡ checked r = rw (site-passed (c .before .before .before .before .before .before .before .before .before .before .before), unused-passed (c .before .before .before .before .before .before .before .before .before), sym (c .before .coefficients-hold .ensures) ∙ not-true _ (c .if3 .taken)) in
-    e ∙ checked-valid r
+    let at = c .before .before in
+    let e : false ≡ checked (given2 at) = rw (numbers-passed2 at, arrays-passed at, ne-eqb _ _ (λ e. c .if3 .taken (e ∙ sym (c .before .well-storage .ensures)))) in
+    e ∙ checked-valid (given2 at)
 
-loss-slots-hold-requires : tie.Need-loss-slots-hold-requires
-loss-slots-hold-requires c κs = search needs
+totals-hold-requires : tie.Need-totals-hold-requires
+totals-hold-requires c κs = search needs
 
 returns-4 : tie.Need-returns-4
 unfolding checked
 returns-4 c =
-    let r = c .before .before .before .before .before .before .before .before .before .before .before .before .before .before .before .before .before .before .before .before .args .t1 in
-    let e : false ≡ checked r = rw (site-passed (c .before .before .before .before .before .before .before .before .before .before .before .before .before .before .before), unused-passed (c .before .before .before .before .before .before .before .before .before .before .before .before .before), arrays-passed (c .before .before .before .before), sym (c .before .loss-slots-hold .ensures) ∙ not-true _ (c .if4 .taken)) in
-    e ∙ checked-valid r
+    let at = storage (c .before) in
+    let e : false ≡ checked (given3 at) =
+    rw (numbers-passed2 (coefficients at), arrays-passed (coefficients at), storage-passed at, sym (totals-tested (c .before)) ∙ not-true _ (c .if4 .taken)) in
+    e ∙ checked-valid (given3 at)
 
-well-storage-requires : tie.Need-well-storage-requires
-well-storage-requires c κs = site-numbers _ (site-passed (c .before .before .before .before .before .before .before .before .before .before .before .before .before .before .before)) .well .area-most
+element-copy-out-drawdowns-hold : tie.Need-element-copy-out-drawdowns-hold
+element-copy-out-drawdowns-hold c = search needs
+
+mul-drawdowns-hold : tie.Need-mul-drawdowns-hold
+mul-drawdowns-hold c = let at = storage (c .before .before) in omega (arith, table-most (given3 at) (numbers-passed2 (coefficients at)))
+
+mul-drawdowns-hold-2 : tie.Need-mul-drawdowns-hold-2
+mul-drawdowns-hold-2 c = let at = storage (c .before .before) in omega (arith, intake-most (given3 at) (numbers-passed2 (coefficients at)))
+
+drawdowns-hold-requires : tie.Need-drawdowns-hold-requires
+drawdowns-hold-requires c κs =
+    let at = storage (totals c .before) in
+    let r = given3 at in
+    let numbered = numbers-passed2 (coefficients at) in
+    let losses = and-left (lossesPass r) (totalsPass r) (totals-passed (totals c)) in
+    let well = well-natural r (and-right (lossesPass r) (totalsPass r) (totals-passed (totals c))) in
+    rw (well-back (numbers (coefficients at .before .before)))
+    (table-most r numbered, intake-most r numbered, cells-store r (arrays-passed (coefficients at)) losses, well-stores r numbered (storage-passed at), well)
 
 returns-5 : tie.Need-returns-5
 unfolding checked
 returns-5 c =
-    let r = c .before .before .before .before .before .before .before .before .before .before .before .before .before .before .before .before .before .before .before .before .before .before .args .t1 in
-    let e : false ≡ checked r = rw (site-passed (c .before .before .before .before .before .before .before .before .before .before .before .before .before .before .before .before .before), unused-passed (c .before .before .before .before .before .before .before .before .before .before .before .before .before .before .before), arrays-passed (c .before .before .before .before .before .before), losses-passed (c .before .before), ne-eqb _ _ (λ e. c .if5 .taken (e ∙ sym (c .before .well-storage .ensures)))) in
-    e ∙ checked-valid r
-
-totals-agree-requires : tie.Need-totals-agree-requires
-totals-agree-requires c κs = slot-natural _ _ _ (losses-passed (c .before .before .before .before))
-
-returns-6 : tie.Need-returns-6
-unfolding checked
-returns-6 c =
-    let r = c .before .before .before .before .before .before .before .before .before .before .before .before .before .before .before .before .before .before .before .before .before .before .before .before .before .before .args .t1 in
-    let e : false ≡ checked r = rw (site-passed (c .before .before .before .before .before .before .before .before .before .before .before .before .before .before .before .before .before .before .before .before .before), unused-passed (c .before .before .before .before .before .before .before .before .before .before .before .before .before .before .before .before .before .before .before), arrays-passed (c .before .before .before .before .before .before .before .before .before .before), losses-passed (c .before .before .before .before .before .before), storage-passed (c .before .before .before .before), sym (totals-tested (c .before)) ∙ not-true _ (c .if6 .taken)) in
-    e ∙ checked-valid r
-
-mul-shallow : tie.Need-mul-shallow
-mul-shallow c = omega (arith, site-numbers _ (site-passed (c .before .before .before .before .before .before .before .before .before .before .before .before .before .before .before .before .before .before .before .before .before)) .well .intake-most)
-
-size-requires : tie.Need-size-requires
-size-requires c κs = rw (well-back (c .before .before .before .before .before .before .before .before .before .before .before .before .before .before .before .before .before .before .before .before .before .before .before .before)) (well-natural _ _ _ _ _ (totals-passed c))
-
-shallow-requires : tie.Need-shallow-requires
-shallow-requires c κs = omega (arith, site-numbers _ (site-passed (c .before .before .before .before .before .before .before .before .before .before .before .before .before .before .before .before .before .before .before .before .before .before)) .well .intake-most)
-
-returns-7 : tie.Need-returns-7
-unfolding checked
-returns-7 c =
-    let r = c .before .before .before .before .before .before .before .before .before .before .before .before .before .before .before .before .before .before .before .before .before .before .before .before .before .before .before .before .before .args .t1 in
-    let e : false ≡ checked r = rw (site-passed (c .before .before .before .before .before .before .before .before .before .before .before .before .before .before .before .before .before .before .before .before .before .before .before .before), unused-passed (c .before .before .before .before .before .before .before .before .before .before .before .before .before .before .before .before .before .before .before .before .before .before), arrays-passed (c .before .before .before .before .before .before .before .before .before .before .before .before .before), losses-passed (c .before .before .before .before .before .before .before .before .before), storage-passed (c .before .before .before .before .before .before .before), totals-passed (c .before .before .before), sym (well-tested (c .before)) ∙ not-true _ (c .if7 .taken)) in
-    e ∙ checked-valid r
-
-element-copy-out-depth-slots-hold : tie.Need-element-copy-out-depth-slots-hold
-element-copy-out-depth-slots-hold c = search needs
-
-mul-depth-slots-hold : tie.Need-mul-depth-slots-hold
-mul-depth-slots-hold c = omega (arith, site-numbers _ (site-passed (c .before .before .before .before .before .before .before .before .before .before .before .before .before .before .before .before .before .before .before .before .before .before .before .before .before)) .layer 0 (omega (arith, site-counts _ (site-passed (c .before .before .before .before .before .before .before .before .before .before .before .before .before .before .before .before .before .before .before .before .before .before .before .before .before)) .layers-least)) .thickness-most)
-
-depth-slots-hold-requires : tie.Need-depth-slots-hold-requires
-depth-slots-hold-requires c κs = (omega (arith, site-numbers _ (site-passed (c .before .before .before .before .before .before .before .before .before .before .before .before .before .before .before .before .before .before .before .before .before .before .before .before .before .before .before .before)) .layer 0 (omega (arith, site-counts _ (site-passed (c .before .before .before .before .before .before .before .before .before .before .before .before .before .before .before .before .before .before .before .before .before .before .before .before .before .before .before .before)) .layers-least)) .thickness-most), slot-natural _ _ _ (losses-passed (c .before .before .before .before .before .before .before .before .before .before .before .before .before)))
-
-returns-8 : tie.Need-returns-8
-unfolding checked
-returns-8 c =
-    let r = c .before .before .before .before .before .before .before .before .before .before .before .before .before .before .before .before .before .before .before .before .before .before .before .before .before .before .before .before .before .before .before .before .before .before .args .t1 in
-    let e : c .depth-slots-hold .result ≡ checked r = rw (site-passed (c .before .before .before .before .before .before .before .before .before .before .before .before .before .before .before .before .before .before .before .before .before .before .before .before .before .before .before .before .before), unused-passed (c .before .before .before .before .before .before .before .before .before .before .before .before .before .before .before .before .before .before .before .before .before .before .before .before .before .before .before), arrays-passed (c .before .before .before .before .before .before .before .before .before .before .before .before .before .before .before .before .before .before), losses-passed (c .before .before .before .before .before .before .before .before .before .before .before .before .before .before), storage-passed (c .before .before .before .before .before .before .before .before .before .before .before .before), totals-passed (c .before .before .before .before .before .before .before .before), well-passed (c .before .before .before .before .before)) (c .depth-slots-hold .ensures) in
+    let at = storage (totals (c .before) .before) in
+    let r = given3 at in
+    let tested : c .drawdowns-hold .result ≡ (wellPasses r && depthsPass r) = rw (well-back (numbers (coefficients at .before .before))) at (c .drawdowns-hold .ensures) in
+    let e : c .drawdowns-hold .result ≡ checked r =
+    rw (numbers-passed2 (coefficients at), arrays-passed (coefficients at), storage-passed at, totals-passed (totals (c .before))) tested in
     e ∙ checked-valid r
 
 pub valid-spec : {M : Type 1} → statement M
 valid-spec =
     tie.close
     (tie.spec
-    site-holds-requires
+    numbers-hold-requires
     returns
-    site-unused-requires
-    returns-2
     coefficients-hold-requires
-    returns-3
-    loss-slots-hold-requires
-    returns-4
+    returns-2
     well-storage-requires
-    returns-5
-    totals-agree-requires
-    returns-6
-    mul-shallow
-    size-requires
-    shallow-requires
-    returns-7
-    element-copy-out-depth-slots-hold
-    mul-depth-slots-hold
-    depth-slots-hold-requires
-    returns-8)
+    returns-3
+    totals-hold-requires
+    returns-4
+    element-copy-out-drawdowns-hold
+    mul-drawdowns-hold
+    mul-drawdowns-hold-2
+    drawdowns-hold-requires
+    returns-5)

@@ -1,5 +1,4 @@
 -- `words::divide::by_full_width` meets its contract: long division of three digits, the first two of them in top * 2^32 + next.
--- Assumes nothing.
 use mathlib.Core.Path.{_≡_, sym, ap, _∙_}
 use Prim.Native.Nat.{ℕ, _+_, _*_, _/_, _%_, _^_, _<_}
 use native.Mathlib.Nat.{lt-of-lt-of-le, div-mul-le-self, mod-lt}

@@ -1,6 +1,5 @@
 -- `words::divide::by_word` meets its contract: the leading zeros of the divisor bring it to full width, and the dividend shifted alike has
 -- the same quotient.
--- Assumes nothing.
 use mathlib.Core.Path.{_≡_, sym, ap, ap₂, _∙_, subst}
 use Prim.Native.Nat.{ℕ, suc, _+_, _-_, _*_, _/_, _%_, _^_, _≤_, _<_}
 use native.Mathlib.Nat.{le-trans, le-of-eq, lt-trans, mul-le-mul-right, mul-lt-mul-of-pos-right, div-lt-iff-lt-mul, div-div-eq-div-mul, mul-div-mul-right, mod-eq-of-lt}

@@ -1,5 +1,4 @@
 -- `words::divide::digit` meets its contract: the law of an estimated digit (`laws`, Divide) at the base 2^32.
--- Assumes nothing.
 use Prim.Native.Nat.{_/_, _^_}
 use native.Mathlib.Omega.{arith}
 use borrow.Author.Needs.{needs}

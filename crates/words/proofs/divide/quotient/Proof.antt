@@ -1,5 +1,4 @@
 -- `words::divide::quotient` meets its contract: the quotient fits a word exactly where the product's upper word is below the divisor.
--- Assumes nothing.
 use mathlib.Core.Path.{sym, ap, _∙_}
 use Prim.Native.Nat.{ℕ, _*_, _/_, _^_, _<_}
 use native.Mathlib.Omega.{arith}

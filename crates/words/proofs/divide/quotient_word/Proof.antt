@@ -1,5 +1,4 @@
 -- `words::divide::quotient_word` meets its contract: where the quotient fits a word, the product's upper word is below the divisor.
--- Assumes nothing.
 use Prim.Native.Nat.{_*_}
 use native.Mathlib.Omega.{arith}
 use borrow.Author.Needs.{needs}

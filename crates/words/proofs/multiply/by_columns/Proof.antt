@@ -1,5 +1,4 @@
 -- `words::multiply::by_columns` meets its contract: a product by its columns in the base 2^32.
--- Assumes nothing.
 use Prim.Native.Nat.{ℕ, _+_, _*_, _/_, _^_, _<_}
 use native.Mathlib.Omega.{arith}
 use lib.Bits.{bitAnd, mask-lt}

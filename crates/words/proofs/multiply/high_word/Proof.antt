@@ -1,5 +1,4 @@
 -- `words::multiply::high_word` meets its contract: the middle column's carry goes to the top, and a product of two words has two words.
--- Assumes nothing.
 use mathlib.Core.Path.{_≡_}
 use Prim.Native.Nat.{_+_, _*_, _/_, _^_}
 use native.Mathlib.Nat.{div-lt-iff-lt-mul}

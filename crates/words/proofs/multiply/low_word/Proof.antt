@@ -1,5 +1,4 @@
 -- `words::multiply::low_word` meets its contract: the middle column's lower half stands above the low column.
--- Assumes nothing.
 use mathlib.Core.Path.{_≡_}
 use Prim.Native.Nat.{_+_, _*_, _%_, _^_}
 use native.Mathlib.Nat.{mod-lt}

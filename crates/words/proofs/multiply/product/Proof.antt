@@ -1,5 +1,4 @@
 -- `words::multiply::product` meets its contract: its two words are what `high_word` and `low_word` ensure.
--- Assumes nothing.
 use borrow.Author.Needs.{needs}
 use Rattle.words.proofs.multiply.product.Statement.{statement}
 use Rattle.words.proofs.multiply.product.Tie as tie

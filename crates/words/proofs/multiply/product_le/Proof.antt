@@ -1,5 +1,4 @@
 -- `words::multiply::product_le` meets its contract: two numbers are in the order of their upper digits, or, where these agree, of their lower.
--- Assumes nothing.
 use mathlib.Core.Path.{_≡_, sym, _∙_}
 use mathlib.Core.Logic.{⊎-elim}
 use Prim.Native.Nat.{ℕ, suc, _/_, _%_, _^_, _≤_, _<_}

@@ -1,3 +1,0 @@
-pub mod Depths
-pub mod Flows
-pub mod Worked

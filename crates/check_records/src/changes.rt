@@ -1,0 +1,304 @@
+// The changes, by group and number. Each is one number that document 01 limits, at its last allowed and its first forbidden value, or a few
+// numbers that go together. `before` is what stood there.
+use record::Record;
+use site::Site;
+
+const LARGEST: u64 = 18446744073709551615;
+
+// Counts of layers, columns and coefficients.
+pub fn counts(before: Site, case: u64) -> Site {
+    let mut site = before;
+    match case {
+        1 => site.layers = 1,
+        2 => site.layers = 2,
+        3 => site.layers = 3,
+        4 => site.layers = 20,
+        5 => site.layers = 21,
+        6 => site.layers = LARGEST,
+        7 => site.columns = 1,
+        8 => site.columns = 2,
+        9 => site.columns = 3,
+        10 => site.columns = 50,
+        11 => site.columns = 51,
+        12 => site.columns = LARGEST,
+        13 => site.loss_count = 1,
+        14 => site.loss_count = 2,
+        15 => site.loss_count = 3,
+        16 => site.loss_count = LARGEST,
+        _ => {}
+    }
+    site
+}
+
+// Limits of the layers' numbers.
+pub fn layers(before: Site, case: u64) -> Site {
+    let mut site = before;
+    match case {
+        1 => site.thickness[0] = 1000000,
+        2 => site.thickness[0] = 1000001,
+        3 => site.thickness[1] = 0,
+        4 => site.thickness[1] = 1,
+        5 => site.thickness[1] = 1000000,
+        6 => site.thickness[1] = 1000001,
+        7 => site.screened[1] = 2,
+        8 => site.kh[0] = 0,
+        9 => site.kh[0] = 100000000,
+        10 => site.kh[0] = 100000001,
+        11 => site.kv[1] = 0,
+        12 => site.kv[1] = 100000000,
+        13 => site.kv[1] = 100000001,
+        14 => site.storage[0] = 0,
+        15 => site.storage[0] = 1,
+        16 => site.storage[0] = 100000000,
+        17 => site.storage[0] = 100000001,
+        18 => site.storage[1] = 0,
+        19 => site.storage[1] = 1,
+        20 => site.storage[1] = 1000000,
+        21 => site.storage[1] = 1000001,
+        _ => {}
+    }
+    site
+}
+
+// Limits of the radii and of the well's numbers; rules 4 and 5.
+pub fn numbers(before: Site, case: u64) -> Site {
+    let mut site = before;
+    match case {
+        1 => site.radii[49] = 2000000,
+        2 => site.radii[49] = 2000001,
+        3 => site.well_radius = 9,
+        4 => site.well_radius = 10,
+        5 => site.well_radius = 5000,
+        6 => site.well_radius = 5001,
+        7 => site.intake = 0,
+        8 => site.intake = 1,
+        9 => site.intake = 1000000,
+        10 => site.intake = 1000001,
+        11 => site.friction = 0,
+        12 => site.friction = 1000000,
+        13 => site.friction = 1000001,
+        14 => site.well_radius = 99,
+        15 => site.well_radius = 101,
+        16 => site.radii[0] = 499,
+        17 => site.radii[0] = 501,
+        18 => site.radii[1] = 500,
+        19 => site.radii[1] = 501,
+        20 => site.radii[1] = 1300,
+        21 => site.radii[1] = 1301,
+        22 => site.intake = 9999,
+        23 => site.intake = 10000,
+        24 => site.screened[0] = 1,
+        25 => site.screened[1] = 0,
+        _ => {}
+    }
+    site
+}
+
+// Slots of the scenario's numbers that no layer, column or coefficient uses.
+pub fn unused(before: Site, case: u64) -> Site {
+    let mut site = before;
+    match case {
+        1 => site.thickness[2] = 1,
+        2 => site.thickness[19] = 1,
+        3 => site.screened[2] = 1,
+        4 => site.screened[19] = 1,
+        5 => site.kh[2] = 1,
+        6 => site.kh[19] = 1,
+        7 => site.kv[2] = 1,
+        8 => site.kv[19] = 1,
+        9 => site.storage[2] = 1,
+        10 => site.storage[19] = 1,
+        11 => site.radii[2] = 1,
+        12 => site.radii[49] = 1,
+        13 => site.loss_coefficients[0] = 1,
+        14 => site.loss_coefficients[1] = 1,
+        _ => {}
+    }
+    site
+}
+
+// The well's free water area with the S that goes with it, that S alone; no screened layer and so no C at the well; a second coefficient.
+pub fn well(before: Record, case: u64) -> Record {
+    match case {
+        1 => with_area(before, 0, 0),
+        2 => with_area(before, 1, 1000000),
+        3 => with_area(before, 1000000000, 1000000000000000),
+        4 => with_area(before, 1000000001, 1000000001000000),
+        5 => with_area(before, 30000, 29999999999),
+        6 => with_area(before, 30000, 30000000000),
+        7 => with_area(before, 30000, 30000000001),
+        8 => without_screen(before),
+        9 => with_coefficient(before, 1000000000000),
+        10 => with_coefficient(before, 1000000000001),
+        _ => before,
+    }
+}
+
+fn with_area(before: Record, area: u64, storage: u64) -> Record {
+    let mut rec = before;
+    rec.site.water_area = area;
+    rec.well_storage = storage;
+    rec
+}
+
+fn without_screen(before: Record) -> Record {
+    let mut site = before.site;
+    site.screened[1] = 0;
+    let mut rec = before;
+    rec.site = site;
+    rec.screen[1] = 0;
+    rec
+}
+
+fn with_coefficient(before: Record, coefficient: u64) -> Record {
+    let mut site = before.site;
+    site.loss_count = 2;
+    site.loss_coefficients[1] = coefficient;
+    let mut rec = before;
+    rec.site = site;
+    rec
+}
+
+// C in its limits, then in slots of layers without screen, of the last column, of no layer, and below the deepest one.
+pub fn conductances(before: Record, case: u64) -> Record {
+    let mut rec = before;
+    match case {
+        1 => rec.screen[1] = 0,
+        2 => rec.screen[1] = 1000000000000000,
+        3 => rec.screen[1] = 1000000000000001,
+        4 => rec.screen[1] = LARGEST,
+        5 => rec.horizontal[0] = 0,
+        6 => rec.horizontal[0] = 1000000000000000,
+        7 => rec.horizontal[0] = 1000000000000001,
+        8 => rec.horizontal[50] = LARGEST,
+        9 => rec.vertical[0] = 0,
+        10 => rec.vertical[0] = 1000000000000000,
+        11 => rec.vertical[0] = 1000000000000001,
+        12 => rec.vertical[0] = LARGEST,
+        13 => rec.screen[0] = 1,
+        14 => rec.screen[2] = 1,
+        15 => rec.screen[19] = 1,
+        16 => rec.horizontal[1] = 1,
+        17 => rec.horizontal[100] = 1,
+        18 => rec.horizontal[999] = 1,
+        19 => rec.vertical[1] = 1,
+        20 => rec.vertical[50] = 1,
+        21 => rec.vertical[100] = 1,
+        22 => rec.vertical[999] = 1,
+        _ => {}
+    }
+    rec
+}
+
+// S in its limits, then in slots of the last column and of no layer.
+pub fn storages(before: Record, case: u64) -> Record {
+    let mut rec = before;
+    match case {
+        1 => rec.storages[0] = 0,
+        2 => rec.storages[0] = 1,
+        3 => rec.storages[0] = 1000000000000000000,
+        4 => rec.storages[0] = 1000000000000000001,
+        5 => rec.storages[50] = 0,
+        6 => rec.storages[50] = 1,
+        7 => rec.storages[50] = 1000000000000000000,
+        8 => rec.storages[50] = 1000000000000000001,
+        9 => rec.storages[1] = 1,
+        10 => rec.storages[100] = 1,
+        11 => rec.storages[999] = 1,
+        _ => {}
+    }
+    rec
+}
+
+// What a step moves: V of bore K's places, which are the well and column 1 of layers 1 and 2, and the totals.
+fn with_state(
+    before: Record,
+    well: i64,
+    upper: i64,
+    lower: i64,
+    inflow: i64,
+    pumped: u64,
+    time: u64,
+) -> Record {
+    let mut rec = before;
+    rec.well_loss = well;
+    rec.losses[0] = upper;
+    rec.losses[50] = lower;
+    rec.inflow = inflow;
+    rec.pumped = pumped;
+    rec.time = time;
+    rec
+}
+
+// Losses and inflow that do not add up to the pumped total, are negative, or stand in a slot that no cell uses.
+pub fn sums(before: Record, case: u64) -> Record {
+    match case {
+        1 => with_state(before, 10, 20, 30, 40, 100, 0),
+        2 => with_state(before, 10, 20, 30, 40, 99, 0),
+        3 => with_state(before, 10, 20, 30, 40, 101, 0),
+        4 => with_state(before, 11, 20, 30, 40, 100, 0),
+        5 => with_state(before, 10, 21, 30, 40, 100, 0),
+        6 => with_state(before, 10, 20, 31, 40, 100, 0),
+        7 => with_state(before, 10, 20, 30, 41, 100, 0),
+        8 => with_state(before, 0, 0, 0, 0, 0, 0),
+        9 => with_state(before, -1, 0, 0, 1, 0, 0),
+        10 => with_state(before, 1, -1, 0, 0, 0, 0),
+        11 => with_state(before, 1, 0, -1, 0, 0, 0),
+        12 => with_state(before, 1, 0, 0, -1, 0, 0),
+        13 => with_state(before, 0, 0, 0, -9223372036854775808, 0, 0),
+        // these add up to 2^64
+        14 => with_state(before, 9223372036854775807, 2, 0, 9223372036854775807, 0, 0),
+        15 => with_loss(before, 1, 1, 0, 1),
+        16 => with_loss(before, 1, -1, 1, 0),
+        17 => with_loss(before, 100, 1, 0, 1),
+        18 => with_loss(before, 999, 1, 0, 1),
+        _ => before,
+    }
+}
+
+// A loss in a slot that no cell of bore K uses, and totals that go with it.
+fn with_loss(before: Record, slot: usize, loss: i64, inflow: i64, pumped: u64) -> Record {
+    let mut rec = with_state(before, 0, 0, 0, inflow, pumped, 0);
+    if slot < 1000 {
+        rec.losses[slot] = loss;
+    }
+    rec
+}
+
+// The pumped total and the time at their limit, and where the step that is tried brings them there.
+pub fn totals(before: Record, case: u64) -> Record {
+    match case {
+        1 => with_state(before, 0, 0, 0, 4000000000000000000, 4000000000000000000, 0),
+        2 => with_state(before, 0, 0, 0, 4000000000000000001, 4000000000000000001, 0),
+        3 => with_state(before, 0, 0, 0, 3999999999500000000, 3999999999500000000, 0),
+        4 => with_state(before, 0, 0, 0, 3999999999500000001, 3999999999500000001, 0),
+        5 => with_state(before, 0, 0, 0, 0, 0, 4000000000000000000),
+        6 => with_state(before, 0, 0, 0, 0, 0, 4000000000000000001),
+        7 => with_state(before, 0, 0, 0, 0, 0, 3999999999999500000),
+        8 => with_state(before, 0, 0, 0, 0, 0, 3999999999999500001),
+        _ => before,
+    }
+}
+
+fn with_storages(before: Record, upper: u64, lower: u64) -> Record {
+    let mut rec = before;
+    rec.storages[0] = upper;
+    rec.storages[50] = lower;
+    rec
+}
+
+// Drawdowns of the well, of layer 1 and of layer 2 at their bounds for bore K, and one that no word holds.
+pub fn depths(before: Record, case: u64) -> Record {
+    let thin = with_storages(before, 1000000, 1000000);
+    let empty = with_storages(before, 1000000, 1);
+    match case {
+        1 => with_state(before, 299970029999, 0, 0, 0, 299970029999, 0),
+        2 => with_state(before, 299970030000, 0, 0, 0, 299970030000, 0),
+        3 => with_state(thin, 0, 10000000, 0, 0, 10000000, 0),
+        4 => with_state(thin, 0, 10000001, 0, 0, 10000001, 0),
+        5 => with_state(thin, 0, 0, 1000000000, 0, 1000000000, 0),
+        6 => with_state(thin, 0, 0, 1000000001, 0, 1000000001, 0),
+        7 => with_state(empty, 0, 0, 4000000000000000000, 0, 4000000000000000000, 0),
+        _ => before,
+    }
+}

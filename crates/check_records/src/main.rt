@@ -1,0 +1,134 @@
+// Changes one number, or the few that go with it, in the record that each scenario text gives, and prints what a step of it comes to: every
+// condition of 14 broken just barely beside its nearest allowed neighbour, and 9 by the pumped total and by the time. The reference model
+// prints the same (tests/stored). The changes are chosen for bore K, and tried on every text.
+use check_print::print;
+use check_print::print_line_end;
+use check_print::print_number;
+use check_print::print_refusal;
+use check_print::print_refused_scenario;
+use record::Outcome;
+use record::Record;
+use scenario::Pumping;
+use site::Site;
+
+mod changes;
+
+// The step that is tried: ml/s and µs.
+const RATE: u64 = 1000;
+
+const LENGTH: u64 = 500000;
+
+// The outcome of the step, with the checksum of the record that it gives where 14 does not refuse it.
+fn print_step(rec: Record) {
+    let answer = step::step(rec, RATE, LENGTH);
+    let outcome = answer.outcome;
+    let after = answer.record;
+    match outcome {
+        Outcome::Taken => {
+            print(b" taken");
+            print_number(check_hash::checksum_of(after));
+        }
+        Outcome::Refused(number) => {
+            print_refusal(number);
+            if number != 14 {
+                print_number(check_hash::checksum_of(after));
+            }
+        }
+    }
+    print_line_end();
+}
+
+// The changes to the scenario's numbers, by group and number.
+fn changed_site(site: Site, group: u64, case: u64) -> Site {
+    match group {
+        1 => changes::counts(site, case),
+        2 => changes::layers(site, case),
+        3 => changes::numbers(site, case),
+        _ => changes::unused(site, case),
+    }
+}
+
+fn changed(before: Record, group: u64, case: u64) -> Record {
+    let mut rec = before;
+    match group {
+        1..=4 => {
+            let site = before.site;
+            let other = changed_site(site, group, case);
+            rec.site = other;
+            rec
+        }
+        5 => changes::well(rec, case),
+        6 => changes::conductances(rec, case),
+        7 => changes::storages(rec, case),
+        8 => changes::sums(rec, case),
+        9 => changes::totals(rec, case),
+        _ => changes::depths(rec, case),
+    }
+}
+
+fn print_group(before: Record, name: &[u8], group: u64, cases: u64) {
+    let mut case: u64 = 0;
+    while case < cases {
+        case += 1;
+        print(name);
+        print_number(case);
+        print_step(changed(before, group, case));
+    }
+}
+
+fn print_groups(before: Record) {
+    print(b"unchanged");
+    print_step(before);
+    print_group(before, b"counts", 1, 16);
+    print_group(before, b"layers", 2, 21);
+    print_group(before, b"numbers", 3, 25);
+    print_group(before, b"unused", 4, 14);
+    print_group(before, b"well", 5, 10);
+    print_group(before, b"conductances", 6, 22);
+    print_group(before, b"storages", 7, 11);
+    print_group(before, b"sums", 8, 18);
+    print_group(before, b"totals", 9, 8);
+    print_group(before, b"depths", 10, 7);
+}
+
+// The record after the steps of the first entry, as many of them as are taken.
+fn after_first_entry(text: &[u8], start: Record) -> Record {
+    let found = scenario::pumping_entry(text, 1);
+    let Pumping::Found(entry) = found else {
+        return start;
+    };
+    let repeated = step::repeat(start, entry.rate, entry.length, entry.repeats);
+    repeated.record
+}
+
+fn print_text(text: &[u8]) {
+    let answer = scenario::start(text);
+    let outcome = answer.outcome;
+    if let Outcome::Refused(number) = outcome {
+        print_refused_scenario(number);
+        return;
+    }
+    let start = answer.record;
+    print_groups(after_first_entry(text, start));
+}
+
+// The text of the file that argument i names.
+fn print_file(i: usize) {
+    let file = check_print::open_argument(i);
+    if file < 0 {
+        return;
+    }
+    // one byte more than a text may have
+    let mut text = [0u8; 65537];
+    let got = check_print::read_closing(file, &mut text);
+    print_text(&text[..got]);
+}
+
+fn main() {
+    let n = os::arg_count();
+    let mut i = 1;
+    while i < n {
+        print_file(i);
+        i += 1;
+    }
+}

@@ -1,0 +1,63 @@
+-- `check_report::print_inward`.
+use Prim.Native.Nat.{_-_, _≤_}
+use native.Mathlib.Omega.{arith}
+use borrow.Author.Needs.{needs}
+use Rattle.check_report.proofs.print_inward.Statement.{statement}
+use Rattle.check_report.proofs.print_inward.Tie as tie
+
+abbrev Inv-loop : tie.InvT-loop
+Inv-loop rec dt i₀ t4 i = i ≤ 21
+
+abbrev μ-loop : tie.MeasureT-loop
+μ-loop rec dt i₀ t4 i = 21 - i
+
+loop-holds : tie.Need-loop-holds Inv-loop μ-loop
+loop-holds c = omega arith
+
+is-screened-requires : tie.Need-is-screened-requires Inv-loop μ-loop
+is-screened-requires c κs = search needs
+
+slice-aggregate-print-row-head : tie.Need-slice-aggregate-print-row-head Inv-loop μ-loop
+slice-aggregate-print-row-head c = search needs
+
+print-row-head-requires : tie.Need-print-row-head-requires Inv-loop μ-loop
+print-row-head-requires c κs = search needs
+
+face-flow-requires : tie.Need-face-flow-requires Inv-loop μ-loop
+face-flow-requires c κs = search needs
+
+print-amount-requires : tie.Need-print-amount-requires Inv-loop μ-loop
+print-amount-requires c κs = search needs
+
+print-line-end-requires : tie.Need-print-line-end-requires Inv-loop μ-loop
+print-line-end-requires c κs = search needs
+
+add-i : tie.Need-add-i Inv-loop μ-loop
+add-i c = omega arith
+
+loop-less : tie.Need-loop-less Inv-loop μ-loop
+loop-less c = omega arith
+
+loop-again : tie.Need-loop-again Inv-loop μ-loop
+loop-again c = omega arith
+
+returns : tie.Need-returns Inv-loop μ-loop
+returns c = search needs
+
+pub print-inward-spec : {M : Type 1} → statement M
+print-inward-spec =
+    tie.close
+    (tie.spec
+    Inv-loop
+    μ-loop
+    loop-holds
+    is-screened-requires
+    slice-aggregate-print-row-head
+    print-row-head-requires
+    face-flow-requires
+    print-amount-requires
+    print-line-end-requires
+    add-i
+    loop-less
+    loop-again
+    returns)

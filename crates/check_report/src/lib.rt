@@ -1,0 +1,551 @@
+// Prints the readings of a record as the reference model does (tests/README.md), for `check_scenarios`. Its functions promise nothing but to end:
+// what they print is held to the model's.
+use check_print::print;
+use check_print::print_integer;
+use check_print::print_line_end;
+use check_print::print_number;
+use check_print::print_refusal;
+use check_print::size;
+use read_head_loss::Loss;
+use readings::Amount;
+use readings::Balance;
+use readings::Count;
+use readings::Place;
+use readings::Sameness;
+use record::Record;
+ghost use mathlib.Core.Path.{_≡_};
+ghost use Prim.Native.Nat.{_≤_, _<_};
+ghost use lib.ListN.{length};
+
+fn print_amount(amount: Amount) {
+    match amount {
+        Amount::Given(value) => print_integer(value),
+        Amount::Refused(number) => print_refusal(number),
+    }
+}
+
+// ---- budget
+
+fn print_budget(rec: Record) {
+    print(b"budget");
+    let balance = read_budget::budget(rec);
+    match balance {
+        Balance::Refused(number) => print_refusal(number),
+        Balance::Given(totals) => {
+            print_number(totals.pumped);
+            print_integer(totals.well_loss);
+            print_integer(totals.cell_loss);
+            print_integer(totals.inflow);
+        }
+    }
+    print_line_end();
+}
+
+// ---- drawdowns
+
+fn print_row_depths(rec: Record, layer: u64) {
+    let columns = rec.site.columns;
+    let mut j: u64 = 1;
+    while j < 50 {
+        if columns <= j {
+            return;
+        }
+        print_amount(read_drawdown::drawdown(rec, Place::Cell(layer, j)));
+        j += 1;
+    }
+}
+
+fn print_depths(rec: Record) {
+    print(b"well");
+    print_amount(read_drawdown::drawdown(rec, Place::Well));
+    print_line_end();
+    let layers = rec.site.layers;
+    let mut i: u64 = 1;
+    while i <= 20 {
+        if layers < i {
+            return;
+        }
+        print(b"layer");
+        print_number(i);
+        print_row_depths(rec, i);
+        print_line_end();
+        i += 1;
+    }
+}
+
+// ---- storage losses
+
+// How many places a record has; 0 where its counts are out of their limits.
+fn place_count(rec: Record) -> usize
+    ensures { λ r. ⌜ r ≤ 981 ⌝ }
+{
+    let layers = rec.site.layers;
+    let columns = rec.site.columns;
+    if 20 < layers {
+        return 0;
+    }
+    if columns == 0 {
+        return 0;
+    }
+    if 50 < columns {
+        return 0;
+    }
+    1 + layers as usize * (columns as usize - 1)
+}
+
+// Byte k of the sets that are read: 0 empty, 1 all, 2 the well, 3 the cells, 4 and 5 mixed ones.
+fn set_byte(set: u64, k: usize) -> u8
+    requires { ⌜ k < 1001 ⌝ }
+{
+    match set {
+        0 => 0,
+        1 => 1,
+        2 => {
+            if k == 0 {
+                return 255;
+            }
+            0
+        }
+        3 => {
+            if k == 0 {
+                return 0;
+            }
+            128
+        }
+        4 => (k % 3) as u8,
+        _ => ((k * k + k / 7) % 5) as u8,
+    }
+}
+
+fn set_bytes(set: u64) -> [u8; 1001]
+    ensures { λ r. ⌜ 1001 ≡ length r ⌝ }
+{
+    let mut bytes = [0u8; 1001];
+    let mut k: usize = 0;
+    while k < 1001 {
+        bytes[k] = set_byte(set, k);
+        k += 1;
+    }
+    bytes
+}
+
+// The storage loss of the first n bytes of a set.
+fn print_loss(rec: Record, set: u64, n: usize)
+    requires { ⌜ n ≤ 1001 ⌝ }
+{
+    let bytes = set_bytes(set);
+    print_amount(read_budget::storage_loss(rec, &bytes[..n]));
+    print_line_end();
+}
+
+fn print_set(rec: Record, set: u64) {
+    print(b"set");
+    print_number(set);
+    print_loss(rec, set, place_count(rec));
+}
+
+fn print_set_length(rec: Record, n: usize)
+    requires { ⌜ n ≤ 1001 ⌝ }
+{
+    print(b"set length");
+    print_number(n as u64);
+    print_loss(rec, 1, n);
+}
+
+fn print_sets(rec: Record) {
+    print_set(rec, 0);
+    print_set(rec, 1);
+    print_set(rec, 2);
+    print_set(rec, 3);
+    print_set(rec, 4);
+    print_set(rec, 5);
+    let n = place_count(rec);
+    if n == 0 {
+        return;
+    }
+    print_set_length(rec, 0);
+    print_set_length(rec, n - 1);
+    print_set_length(rec, n + 1);
+}
+
+// ---- deep cells
+
+fn greater(a: u64, b: u64) -> u64 {
+    if a < b {
+        return b;
+    }
+    a
+}
+
+fn depth_at(rec: Record, layer: u64, column: u64) -> u64 {
+    let amount = read_drawdown::drawdown(rec, Place::Cell(layer, column));
+    match amount {
+        Amount::Refused(_) => 0,
+        Amount::Given(depth) => size(depth),
+    }
+}
+
+// The greatest drawdown of a cell.
+fn deepest(rec: Record) -> u64 {
+    let mut most: u64 = 0;
+    let mut k: u64 = 0;
+    while k < 1000 {
+        most = greater(most, depth_at(rec, k / 50 + 1, k % 50 + 1));
+        k += 1;
+    }
+    most
+}
+
+fn blank() -> [u64; 1001]
+    ensures { λ r. ⌜ 1001 ≡ length r ⌝ }
+{
+    [0; 1001]
+}
+
+// The first n codes of a list, rising, whatever their order in it.
+fn print_codes(list: &[u64; 1001], n: u64) {
+    let mut there = [false; 2100];
+    let mut k: usize = 0;
+    while k < 1001 {
+        let code = list[k];
+        if (k as u64) < n {
+            if code < 2100 {
+                there[code as usize] = true;
+            }
+        }
+        k += 1;
+    }
+    print_there(&there);
+}
+
+fn print_there(there: &[bool; 2100]) {
+    let mut code: usize = 0;
+    while code < 2100 {
+        if there[code] {
+            print_number(code as u64);
+        }
+        code += 1;
+    }
+}
+
+// The answer, and what a lent list of n slots holds after it.
+struct Listed {
+    answer: Count,
+    list: [u64; 1001],
+}
+
+fn list_deep(rec: Record, depth: u64, n: usize) -> Listed
+    requires { ⌜ n ≤ 1001 ⌝ }
+{
+    let mut list = blank();
+    let answer = read_deep_cells::deep_cells(rec, depth, &mut list[..n]);
+    Listed { answer, list }
+}
+
+fn print_count(answer: Count) {
+    match answer {
+        Count::Refused(number) => print_refusal(number),
+        Count::Given(count) => print_number(count),
+    }
+}
+
+// What a list one slot too short for `count` cells gives.
+fn print_short(rec: Record, depth: u64, count: u64) {
+    if count == 0 {
+        return;
+    }
+    if 1001 < count {
+        return;
+    }
+    let short = list_deep(rec, depth, count as usize - 1);
+    print(b"deep short");
+    print_number(depth);
+    let answer = short.answer;
+    print_count(answer);
+    print_line_end();
+}
+
+fn count_in(answer: Count) -> u64 {
+    match answer {
+        Count::Refused(_) => 0,
+        Count::Given(count) => count,
+    }
+}
+
+fn print_deep(rec: Record, depth: u64) {
+    let deep = list_deep(rec, depth, place_count(rec));
+    let answer = deep.answer;
+    let count = count_in(answer);
+    print(b"deep");
+    print_number(depth);
+    print_count(answer);
+    let list = deep.list;
+    print_codes(&list, count);
+    print_line_end();
+    print_short(rec, depth, count);
+}
+
+fn print_deep_cells(rec: Record) {
+    let most = deepest(rec);
+    print_deep(rec, 0);
+    print_deep(rec, most / 4);
+    print_deep(rec, most / 2);
+    if most == 0 {
+        print_deep(rec, 0);
+    } else {
+        print_deep(rec, most - 1);
+    }
+    print_deep(rec, most);
+    print_deep(rec, 1000000000);
+    print_deep(rec, 18446744073709551615);
+}
+
+// ---- sameness
+
+fn print_sameness(sameness: Sameness) {
+    match sameness {
+        Sameness::Refused(number) => print_refusal(number),
+        Sameness::Given(same) => print_number(if same { 1 } else { 0 }),
+    }
+}
+
+fn print_same(rec: Record, other: Record) {
+    print(b"same");
+    print_sameness(read_same::same(rec, other));
+    print_sameness(read_same::same(other, rec));
+    print_line_end();
+}
+
+// ---- flows for a step not taken
+
+fn is_given(amount: Amount) -> bool {
+    match amount {
+        Amount::Given(_) => true,
+        Amount::Refused(_) => false,
+    }
+}
+
+fn is_screened(rec: Record, layer: u64) -> bool {
+    if layer == 0 {
+        return false;
+    }
+    if 20 < layer {
+        return false;
+    }
+    if rec.site.layers < layer {
+        return false;
+    }
+    let site = rec.site;
+    site.screened[layer as usize - 1] == 1
+}
+
+fn print_row_head(word: &[u8], dt: u64, layer: u64) {
+    print(word);
+    print_number(dt);
+    print_number(layer);
+}
+
+fn print_inward(rec: Record, dt: u64) {
+    let mut i: u64 = 1;
+    while i <= 20 {
+        if is_screened(rec, i) {
+            print_row_head(b"inward", dt, i);
+            print_amount(read_flow::face_flow(rec, Place::Cell(i, 1), Place::Well, dt));
+            print_line_end();
+        }
+        i += 1;
+    }
+}
+
+// From each stored cell of a layer to the next column, or, where `below` is 1, to the layer below; the first refusal ends the row.
+fn print_row_flows(rec: Record, layer: u64, below: u64, dt: u64)
+    requires { ⌜ (layer ≤ 20) × (below ≤ 1) ⌝ }
+{
+    let columns = rec.site.columns;
+    let mut j: u64 = 1;
+    while j < 50 {
+        if columns <= j {
+            return;
+        }
+        let amount = read_flow::face_flow(
+            rec,
+            Place::Cell(layer, j),
+            Place::Cell(layer + below, j + 1 - below),
+            dt,
+        );
+        print_amount(amount);
+        if !is_given(amount) {
+            return;
+        }
+        j += 1;
+    }
+}
+
+// The flows of each layer, across or, where `below` is 1, down to the layer below.
+fn print_rows(rec: Record, word: &[u8], below: u64, dt: u64)
+    requires { ⌜ below ≤ 1 ⌝ }
+{
+    let layers = rec.site.layers;
+    let mut i: u64 = 1;
+    while i <= 20 {
+        if layers < i + below {
+            return;
+        }
+        print_row_head(word, dt, i);
+        print_row_flows(rec, i, below, dt);
+        print_line_end();
+        i += 1;
+    }
+}
+
+// The topmost screened layer, or 0.
+fn first_screened(rec: Record) -> u64 {
+    let mut i: u64 = 1;
+    while i <= 20 {
+        if is_screened(rec, i) {
+            return i;
+        }
+        i += 1;
+    }
+    0
+}
+
+fn print_length(rec: Record, dt: u64) {
+    print(b"length");
+    print_number(dt);
+    print_amount(read_flow::face_flow(rec, Place::Cell(first_screened(rec), 1), Place::Well, dt));
+    print_line_end();
+}
+
+// ---- everything
+
+// Every reading of a record; flows for a length not taken.
+pub fn print_readings(rec: Record, before: Record, start: Record, dt: u64) {
+    print(b"time");
+    print_number(rec.time);
+    print_line_end();
+    print_budget(rec);
+    print(b"checksum");
+    print_number(check_hash::checksum_of(rec));
+    print_line_end();
+    print_depths(rec);
+    print_sets(rec);
+    print_deep_cells(rec);
+    print_same(rec, rec);
+    print_same(rec, before);
+    print_same(rec, start);
+    print_inward(rec, dt);
+    print_rows(rec, b"across", 0, dt);
+    print_rows(rec, b"down", 1, dt);
+    print_length(rec, 0);
+    print_length(rec, 1);
+    print_length(rec, dt);
+    print_length(rec, 1000000000);
+    print_length(rec, 1000000001);
+}
+
+// ---- readings that 12 refuses, before any length is judged
+
+fn print_no_place(rec: Record, layer: u64, column: u64) {
+    print(b"no place");
+    print_amount(read_drawdown::drawdown(rec, Place::Cell(layer, column)));
+    print_line_end();
+}
+
+fn print_no_face(rec: Record, from: Place, to: Place) {
+    print(b"no face");
+    print_amount(read_flow::face_flow(rec, from, to, 0));
+    print_line_end();
+}
+
+fn print_no_places(rec: Record, layers: u64, columns: u64)
+    requires { ⌜ (layers ≤ 20) × (columns ≤ 50) ⌝ }
+{
+    print_no_place(rec, 0, 1);
+    print_no_place(rec, 1, 0);
+    print_no_place(rec, 1, columns);
+    print_no_place(rec, layers, columns + 1);
+    print_no_place(rec, layers + 1, 1);
+    print_no_place(rec, 18446744073709551615, 18446744073709551615);
+}
+
+fn print_no_faces(rec: Record, layers: u64, columns: u64)
+    requires { ⌜ (layers ≤ 20) × (columns ≤ 50) ⌝ }
+{
+    print_no_face(rec, Place::Well, Place::Well);
+    print_no_face(rec, Place::Well, Place::Cell(1, 1));
+    print_no_face(rec, Place::Cell(layers, 2), Place::Well);
+    print_no_face(rec, Place::Cell(1, 1), Place::Cell(1, 1));
+    print_no_face(rec, Place::Cell(1, 1), Place::Cell(2, 2));
+    print_no_face(rec, Place::Cell(1, columns), Place::Cell(2, columns));
+    print_no_face(rec, Place::Cell(1, columns), Place::Cell(1, columns + 1));
+    print_no_face(rec, Place::Cell(layers, 1), Place::Cell(layers + 1, 1));
+    print_no_face(rec, Place::Cell(0, 1), Place::Cell(1, 1));
+    print_no_face(rec, Place::Cell(1, 18446744073709551615), Place::Cell(1, 0));
+}
+
+pub fn print_refused_readings(rec: Record) {
+    let layers = rec.site.layers;
+    let columns = rec.site.columns;
+    if 20 < layers {
+        return;
+    }
+    if 50 < columns {
+        return;
+    }
+    print_no_places(rec, layers, columns);
+    print_no_faces(rec, layers, columns);
+}
+
+// ---- head losses
+
+// A float as its 64 bits.
+fn print_float(x: f64) {
+    if x == x {
+        print_number(f64::to_bits(x));
+    } else {
+        print(b" nan");
+    }
+}
+
+fn print_loss_figures(rec: Record, layer: u64, dt: u64) {
+    let loss = read_head_loss::head_loss(rec, layer, dt);
+    match loss {
+        Loss::Refused(number) => print_refusal(number),
+        Loss::Given(losses) => {
+            print_float(losses.inflow);
+            print_float(losses.screen_loss);
+            print_float(losses.pipe_loss);
+        }
+    }
+    print_line_end();
+}
+
+// The head losses of every screened layer for a length not taken.
+pub fn print_heads(rec: Record, dt: u64) {
+    let mut i: u64 = 1;
+    while i <= 20 {
+        if is_screened(rec, i) {
+            print_row_head(b"head", dt, i);
+            print_loss_figures(rec, i, dt);
+        }
+        i += 1;
+    }
+}
+
+fn print_no_screen(rec: Record, layer: u64) {
+    print(b"no screen");
+    print_loss_figures(rec, layer, 0);
+}
+
+// Layers that 12 refuses, before any length is judged.
+pub fn print_refused_heads(rec: Record) {
+    let layers = rec.site.layers;
+    if 20 < layers {
+        return;
+    }
+    print_no_screen(rec, 0);
+    print_no_screen(rec, 1);
+    print_no_screen(rec, layers + 1);
+    print_no_screen(rec, 18446744073709551615);
+}

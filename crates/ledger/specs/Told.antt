@@ -1,0 +1,68 @@
+-- What the ledger has for each call of a run (document 01, 'The ledger of a run', 'Readings' and 'Who brings a refusal about'): by the scenario's
+-- numbers, its places, faces, C and S, and the ledger's state, and from no record of the run. 14 refuses only a record that is handed in for comparison.
+-- Units: D µm; V, totals and water nl; Δt µs; inflow l/s, head losses m.
+use mathlib.Core.Path.{_≡_}
+use mathlib.Core.Bool.{Bool, not, _&&_, _||_}
+use mathlib.Core.List.{List, [], _∷_}
+use Prim.Native.Nat.{ℕ, _-_}
+use lib.Dec.{eqb, ltb}
+use lib.IntN.{ℤ}
+use lib.ListN.{length}
+use Rattle.laws.specs.Lists.{first}
+use Rattle.network.specs.Network.{Network, State, lossIn, lengthOut, unstable, refusal}
+use Rattle.network.specs.Network as network
+use Rattle.network.specs.Grid.{Grid, placeCount, networkOf}
+use Rattle.site.specs.declared.Site.{Site}
+use Rattle.record.specs.declared.Answer.{Answer}
+use Rattle.record.specs.Record.{gridOf, stateOf, outcomeOf}
+use Rattle.validity.specs.Validity.{valid}
+use Rattle.coefficients.specs.Coefficients.{scenarioGrid}
+use Rattle.readings.specs.declared.Count.{Count}
+use Rattle.readings.specs.Readings.{amountOf, balanceOf, samenessOf, isNamed, numberOf, totalsIn, setOf, leads, waterFrom, isDeepCodeIn, deepCountIn, Listed, sameDepthsIn}
+use Rattle.hydraulics.specs.Hydraulics.{inflowOf}
+use Rattle.read_head_loss.specs.HeadLoss.{waterInto, lossesAt, lossAnswerOf, isScreenedLayer}
+use Rattle.ledger.specs.Calls.{drawdown, budget, loss, flow, deep, same, sameAs, headLoss, Call, step, read, Reply, stepped, amount, balance, listed, compared, losses}
+use Rattle.ledger.specs.Ledger.{afterCall}
+
+-- equal layer and column counts and equal D everywhere, of a grid with the losses vs and another with the losses ws
+abbrev pub alike : Grid → List ℤ → Grid → List ℤ → Bool
+alike G vs H ws = eqb (G .layers) (H .layers) && eqb (G .columns) (H .columns) && sameDepthsIn G vs H ws
+
+module _ (scenario : Site) (s : State) where
+  abbrev G : Grid
+  G = scenarioGrid scenario
+
+  abbrev N : Network
+  N = networkOf G
+
+  -- what the reply to one call is, in the state s
+  unfoldable pub Tells : Call → Reply → Type 0
+  -- a step: the outcome by the ledger's judgement, and a record with the ledger's losses, totals and time after the call
+  Tells (step rate dt) reply =
+      (answer : Answer) × (reply ≡ stepped answer) × (answer .outcome ≡ outcomeOf (refusal N s rate dt)) × (stateOf (answer .«record») ≡ afterCall N s (step rate dt))
+  -- the drawdown at a place; 12 for no such place
+  Tells (read (drawdown p)) reply = reply ≡ amount (amountOf (first ((not (isNamed G p), 12) ∷ [])) (network.drawdown N (s .losses) (numberOf G p)))
+  -- the pumped total, the well's loss, all cells' loss and the inflow total; never refused
+  Tells (read budget) reply = reply ≡ balance (balanceOf 0 (totalsIn N s))
+  -- the storage loss of a set; 13 for another count of bytes than of places
+  Tells (read (loss bytes)) reply = reply ≡ amount (amountOf (first ((not (eqb (length bytes) (placeCount G)), 13) ∷ [])) (lossIn N (setOf bytes) (s .losses)))
+  -- the water of a face from the first end named to the second, for a step Δt not taken; 12 for no such face, 7 and 8 for the Δt
+  Tells (read (flow a b dt)) reply =
+      reply ≡ amount (amountOf (first ((not (leads G a b || leads G b a), 12) ∷ (lengthOut dt, 7) ∷ (unstable N dt, 8) ∷ [])) (waterFrom G (s .losses) dt a b))
+  -- the cells deeper than D: how many, and the code of each once in the lent list; 13 for a list too short
+  Tells (read (deep D old)) reply =
+      (n : Count) × (new : List ℕ) × (reply ≡ listed n new)
+      × Listed (first ((ltb (length old) (deepCountIn G (s .losses) D), 13) ∷ [])) (deepCountIn G (s .losses) D) (isDeepCodeIn G (s .losses) D) old n new
+  -- whether the ledger and another record are the same, and the other way round; 14 for the other record
+  Tells (read (same q)) reply = reply ≡ compared (samenessOf (first ((not (valid q), 14) ∷ [])) (alike G (s .losses) (gridOf q) (stateOf q .losses)))
+  Tells (read (sameAs q)) reply = reply ≡ compared (samenessOf (first ((not (valid q), 14) ∷ [])) (alike (gridOf q) (stateOf q .losses) G (s .losses)))
+  -- inflow, screen loss and pipe loss of a layer, from 1, for a step Δt not taken; 12 for no such screened layer, 7 and 8 for the Δt
+  Tells (read (headLoss layer dt)) reply =
+      reply ≡ losses (lossAnswerOf (first ((not (isScreenedLayer G layer), 12) ∷ (lengthOut dt, 7) ∷ (unstable N dt, 8) ∷ []))
+      (lossesAt scenario (λ i. inflowOf (waterInto G (s .losses) dt i) dt) (layer - 1)))
+
+-- what the replies to a list of calls are, from the state s on
+pub data Told (scenario : Site) : State → List Call → List Reply → Type 0 where
+  nothing : {s : State} → Told scenario s [] []
+  further : {s : State} {c : Call} {cs : List Call} {reply : Reply} {replies : List Reply} → Tells scenario s c reply
+      → Told scenario (afterCall (networkOf (scenarioGrid scenario)) s c) cs replies → Told scenario s (c ∷ cs) (reply ∷ replies)

@@ -1,3 +1,0 @@
-pub mod Repeat
-pub mod Ran
-pub mod Laws

@@ -1,0 +1,131 @@
+-- What is known of a step that `advance` is asked, by slots, and its answers.
+--     well-back, inflow-back                  what the machine reads back of V of the well and the inflow total before the step
+--     well-after-back, inflow-after-back      and after it
+--     totals-fit        the pumped total and the time after the step are words
+--     halted-is         the course and the losses where a number halts the step; halted-9: where 9 does
+--     taken             and where none does
+--     judged            the number of 10 and 11 is the one that halts the step, where 9 does not
+--     restored          the losses before the step, where the slots before the last layer's last column are given back
+use mathlib.Core.Path.{_≡_, sym, _∙_}
+use mathlib.Core.Bool.{true, false}
+use mathlib.Core.Logic.{inl, inr, ⊎-elim}
+use mathlib.Core.List.{List}
+use Prim.Native.Nat.{ℕ, zero, suc, _+_, _*_, _-_, _%_, _^_, _≤_, _<_}
+use native.Mathlib.Nat.{mul-le-mul}
+use native.Mathlib.Omega.{arith}
+use lib.IntN.{ℤ, pos, negℤ, natAbs, _+ℤ_}
+use lib.ListN.{length, getD, replicate, length-replicate}
+use lib.Seq.{ext-getD}
+use borrow.Author.Tests.{le-ltb}
+use mir.Syntax.{w64}
+use mir.Val.{toZ, ofZ}
+use mir.Facts.{toZ-ofZ}
+use Rattle.laws.specs.Fill.{fill, length-fill, getD-fill, getD-fill-rest, getD-same}
+use Rattle.laws.specs.Number.{below-or-not}
+use Rattle.laws.specs.Refusal.{first-is}
+use Rattle.laws.specs.Refusal.First.{hit}
+use Rattle.laws.specs.Signed.{small-fits, abs-add, room-fits, room-sum}
+use Rattle.laws.specs.Lists.{ifℤ, sumℤ, range, first}
+use Rattle.limits.specs.Limits.{rateLimit, lengthLimit, totalLimit}
+use Rattle.record.specs.declared.Outcome.the-variants.{Taken, Refused}
+use Rattle.step_sweep.specs.declared.Terms.{Terms}
+use Rattle.step_sweep.specs.Worked.{Lent, lent, slotCount, wellFlow, toLast, slotAfter, wellAfter, inflowAfter, lossesOf, Unused}
+use Rattle.step_judged.specs.declared.Advanced.{Advanced}
+use Rattle.step_conditions.specs.Conditions.{totalsFull}
+use Rattle.step_judged.specs.Course.{tooDeep, halts, courseAfter, lossesKept, advancedOf, keptOf, Advancing}
+
+-- ---- what fits a word
+
+module _ {a : Lent} {p volume t : ℕ} (q : Advancing a p volume t) where
+  pub well-back : toZ w64 (ofZ w64 (a .wellLoss)) ≡ a .wellLoss
+  well-back = toZ-ofZ (room-fits (q .workable .wellRoom) (omega arith))
+
+  pub inflow-back : toZ w64 (ofZ w64 (a .inflow)) ≡ a .inflow
+  inflow-back = toZ-ofZ (room-fits (q .workable .lastRoom) (omega arith))
+
+  pub well-after-back : toZ w64 (ofZ w64 (wellAfter a)) ≡ wellAfter a
+  unfolding wellAfter
+  well-after-back = toZ-ofZ (small-fits _ {n = totalLimit + rateLimit * lengthLimit} bound (omega arith))
+    where
+      bound : natAbs (a .wellLoss +ℤ sumℤ (range 0 (a .layers)) (wellFlow a) +ℤ pos (a .rate * a .dt)) ≤ totalLimit + rateLimit * lengthLimit
+      bound = omega (
+        arith,
+        abs-add (a .wellLoss +ℤ sumℤ (range 0 (a .layers)) (wellFlow a)) (pos (a .rate * a .dt)),
+        room-sum (wellFlow a) (range 0 (a .layers)) (q .workable .wellRoom),
+        mul-le-mul (q .workable .rate) (q .workable .dt),
+      )
+
+  pub inflow-after-back : toZ w64 (ofZ w64 (inflowAfter a)) ≡ inflowAfter a
+  unfolding inflowAfter
+  inflow-after-back = toZ-ofZ (small-fits _ {n = totalLimit} (room-sum (λ i. negℤ (toLast a i)) (range 0 (a .layers)) (q .workable .lastRoom)) (omega arith))
+
+  pub totals-fit : (a .rate * a .dt < 2 ^ 64) × (volume + a .rate * a .dt < 2 ^ 64) × (t + a .dt < 2 ^ 64)
+  totals-fit = omega (arith, q .pumped, q .time, q .workable .dt, mul-le-mul (q .workable .rate) (q .workable .dt))
+
+-- ---- the answers
+
+module _ (a : Lent) (p volume t : ℕ) where
+  -- the course and the losses of a step refused with this number
+  abbrev Halted : ℕ → Type 0
+  Halted n =
+      (_≡_ {A = Advanced} (record { outcome = Refused n; course = record { «well_loss» = a .wellLoss; pumped = volume; inflow = a .inflow; time = t } }) (advancedOf a p volume t))
+      × (a .losses ≡ keptOf a p volume t)
+
+  pub halted-is : (n : ℕ) → 0 < n → n ≡ halts a p volume t → Halted n
+  unfolding advancedOf keptOf courseAfter lossesKept
+  halted-is zero h e = absurd (omega arith)
+  halted-is (suc n) h e = (rw (← e), rw (← e))
+
+  pub halted-9 : totalsFull volume t (a .rate) (a .dt) ≡ true → Halted 9
+  unfolding halts
+  halted-9 e = halted-is 9 (omega arith) (first-is (hit e))
+
+  pub taken : 0 ≡ halts a p volume t
+      → {well inflow : ℤ} → well ≡ wellAfter a → inflow ≡ inflowAfter a → {ls : List ℤ} → ls ≡ lossesOf a
+      → (_≡_ {A = Advanced} (record { outcome = Taken; course = record { «well_loss» = well; pumped = volume + a .rate * a .dt; inflow = inflow; time = t + a .dt } }) (advancedOf a p volume t))
+      × (ls ≡ keptOf a p volume t)
+  unfolding advancedOf keptOf courseAfter lossesKept
+  taken e w i l = (rw (← e, w, i), rw (← e, l))
+
+-- where 9 lets the step pass, the number that halts it is the first of 10 and 11
+pub judged : {v : ℤ} {ls : List ℤ} (terms : Terms) (well inflow : ℤ) (screen horizontal vertical storages : List ℕ) (losses : List ℤ) (volume t : ℕ)
+    → let a = lent terms well inflow screen horizontal vertical storages losses in
+    totalsFull volume t (terms .rate) (terms .dt) ≡ false → v ≡ wellAfter a → ls ≡ lossesOf a → tooDeep terms v storages ls ≡ halts a (terms .intake) volume t
+unfolding tooDeep halts first
+judged terms well inflow screen horizontal vertical storages losses volume t room w l = rw (room, w, l)
+
+-- ---- the losses given back
+
+module _ {a : Lent} {p volume t : ℕ} (q : Advancing a p volume t) where
+  long : length (lossesOf a) ≡ 1000
+  unfolding lossesOf
+  long = length-fill (slotAfter a) (replicate 1000 (pos 0)) (slotCount a) ∙ length-replicate 1000 (pos 0)
+
+  none-lost : (k : ℕ) → k < 1000 → Unused (a .layers) (a .columns) k → getD (lossesOf a) k (pos 0) ≡ pos 0
+  unfolding lossesOf slotAfter ifℤ
+  none-lost k h u = ⊎-elim
+      (λ lt. getD-fill (slotAfter a) (replicate 1000 (pos 0)) (slotCount a) k (pos 0) lt (omega (arith, length-replicate 1000 (pos 0))) ∙ rw (le-ltb (k % 50 + 1) (a .columns) (⊎-elim (λ m. absurd (omega arith)) (λ m. m) u)))
+      (λ le. getD-fill-rest (slotAfter a) (replicate 1000 (pos 0)) (slotCount a) k (pos 0) le ∙ getD-same 1000 k (pos 0))
+      (below-or-not k (slotCount a))
+
+  given-back : length (a .losses) ≡ 1000 → fill (50 * (a .layers - 1) + (a .columns - 1)) (λ k. getD (a .losses) k (pos 0)) (lossesOf a) ≡ a .losses
+  given-back e = ext-getD (pos 0) (fill n old (lossesOf a)) (a .losses) (same ∙ sym e)
+      (λ k h. ⊎-elim
+      (λ lt. getD-fill old (lossesOf a) n k (pos 0) lt (omega (arith, h, same, long)))
+      (λ le. getD-fill-rest old (lossesOf a) n k (pos 0) le ∙ none-lost k (omega (arith, h, same)) (past k le) ∙ sym (q .workable .unused k (omega (arith, h, same)) (past k le)))
+      (below-or-not k n))
+    where
+      n : ℕ
+      n = 50 * (a .layers - 1) + (a .columns - 1)
+
+      old : ℕ → ℤ
+      old k = getD (a .losses) k (pos 0)
+
+      same : length (fill n old (lossesOf a)) ≡ 1000
+      same = length-fill old (lossesOf a) n ∙ long
+
+      past : (k : ℕ) → n ≤ k → Unused (a .layers) (a .columns) k
+      past k le = ⊎-elim (λ lt. inr (omega (arith, q .workable .columns, q .workable .layers))) inl (below-or-not k (50 * a .layers))
+
+  pub restored : {old ls : List ℤ} → length old ≡ 1000 → old ≡ a .losses → ls ≡ lossesOf a → fill (50 * (a .layers - 1) + (a .columns - 1)) (λ k. getD old k (pos 0)) ls ≡ a .losses
+  restored e o l = rw (o, l) (given-back (rw o at e))

@@ -1,0 +1,156 @@
+-- `step_judged::advance` meets its contract: at each return the tests on the way give the number that halts the step, or none.
+use mathlib.Core.Path.{_≡_, sym, ap, _∙_}
+use mathlib.Core.Bool.{false}
+use mathlib.Core.List.{List}
+use Prim.Native.Nat.{_+_, _*_, _-_, _^_, _<_}
+use native.Mathlib.Omega.{arith}
+use denote.Ref.{now}
+use lib.IntN.{ℤ, pos}
+use lib.ListN.{getD}
+use mir.Syntax.{w64}
+use mir.Val.{toZ, ofZ}
+use Rattle.laws.specs.Fill.{fill}
+use Rattle.step_conditions.specs.Conditions.{totalsFull}
+use Rattle.step_sweep.specs.Worked.{Lent, lent, wellAfter, inflowAfter, workedOf, lossesOf}
+use Rattle.step_judged.specs.Course.{halts, Advancing}
+use Rattle.step_judged.proofs.Laws.{well-back, inflow-back, well-after-back, inflow-after-back, totals-fit, halted-is, halted-9, taken, judged, restored}
+use Rattle.step_judged.proofs.advance.Statement.{statement}
+use Rattle.step_judged.proofs.advance.Tie as tie
+
+-- what the step is worked from
+abbrev held : tie.Start → Lent
+held c =
+    let a = c .args in
+    lent (a .terms) (a .course .«well_loss») (a .course .inflow) (now (a .screen)) (now (a .horizontal)) (now (a .vertical)) (now (a .storages)) (now (a .losses))
+
+asked : (c : tie.Start) → Advancing (held c) (c .args .terms .intake) (c .args .course .pumped) (c .args .course .time)
+asked c = c .pre .0
+
+roomy : (c : tie.Else1) → let a = c .before .before .args in totalsFull (a .course .pumped) (a .course .time) (a .terms .rate) (a .terms .dt) ≡ false
+roomy c = sym (c .before .totals-pass .ensures) ∙ c .if1 .left
+
+-- ---- the step is worked
+
+abbrev counted : tie.After-work-step-arg5 → tie.Else1
+counted c = c .before .before .before .before .before .before .before
+
+abbrev begun : tie.After-work-step-arg5 → tie.Start
+begun c = counted c .before .before
+
+module _ (c : tie.After-work-step) where
+  abbrev start : tie.Start
+  start = begun (c .before)
+
+  worked : c .work-step .result ≡ workedOf (held start)
+  worked = rw (well-back (asked start), inflow-back (asked start)) at (c .work-step .ensures .answer)
+
+  -- the losses of the cells after it
+  abbrev left : List ℤ
+  left = c .work-step .last .1 .1 .1 .1 .1 .1 .1 .1 .0
+
+  losses-worked : left ≡ lossesOf (held start)
+  losses-worked = rw (well-back (asked start), inflow-back (asked start)) at (c .work-step .ensures .losses)
+
+  -- and those before it, which are kept aside
+  abbrev aside : List ℤ
+  aside = c .work-step .last .1 .1 .1 .1 .1 .1 .1 .1 .1 .1 .1 .1 .0
+
+  -- the slots given back make the losses what they were
+  undone : {ls : List ℤ} → ls ≡ fill (50 * (start .args .terms .layers - 1) + (start .args .terms .columns - 1)) (λ k. getD aside k (pos 0)) left → ls ≡ now (start .args .losses)
+  undone e = e ∙ restored (asked start) (c .work-step .ensures .scratch .long .3) (c .work-step .ensures .kept) losses-worked
+
+  -- V of the well and the inflow total after it, as the machine reads them back
+  well-worked : toZ w64 (ofZ w64 (c .work-step .result .«well_loss»)) ≡ wellAfter (held start)
+  unfolding workedOf
+  well-worked = ap (λ x. toZ w64 (ofZ w64 (x .«well_loss»))) worked ∙ well-after-back (asked start)
+
+  inflow-worked : toZ w64 (ofZ w64 (c .work-step .result .inflow)) ≡ inflowAfter (held start)
+  unfolding workedOf
+  inflow-worked = ap (λ x. toZ w64 (ofZ w64 (x .inflow))) worked ∙ inflow-after-back (asked start)
+
+-- the place after it from those further on
+abbrev from-told : tie.After-struct-told4 → tie.After-work-step
+from-told c = c .before .before
+
+abbrev from-judged : tie.After-too-deep → tie.After-work-step
+from-judged c = from-told (c .before .before)
+
+-- the number that 10 and 11 gave halts it
+number-is : (c : tie.After-too-deep) → let s = start (from-judged c) in c .too-deep .result ≡ halts (held s) (s .args .terms .intake) (s .args .course .pumped) (s .args .course .time)
+number-is c =
+    let at = from-judged c in
+    c .too-deep .ensures ∙ judged _ _ _ _ _ _ _ _ _ _ (roomy (counted (at .before))) (well-worked at) (losses-worked at)
+
+-- ---- the answers
+
+totals-pass-requires : tie.Need-totals-pass-requires
+totals-pass-requires c κs = let q = asked c in (q .pumped, q .time, q .workable .rate, q .workable .dt)
+
+halted-requires : tie.Need-halted-requires
+halted-requires c κs = tt
+
+returns : tie.Need-returns
+returns c =
+    let s = c .before .before .before in
+    let h = halted-9 (held s) (s .args .terms .intake) (s .args .course .pumped) (s .args .course .time) (sym (c .before .before .totals-pass .ensures) ∙ c .before .if1 .taken) in
+    record { answer = c .halted .ensures ∙ h .0; losses = h .1; scratch = s .pre .1 .1 }
+
+work-step-requires : tie.Need-work-step-requires
+work-step-requires c κs = let s = begun c in (rw (well-back (asked s), inflow-back (asked s)) (asked s .workable), (s .pre .1 .0, s .pre .1 .1))
+
+too-deep-requires : tie.Need-too-deep-requires
+too-deep-requires c κs =
+    let at = from-told (c .before) in
+    let q = asked (start at) in
+    ((q .intake, q .wellStorage, rw (well-worked at) (q .wellLoss)), (q .workable .columns .1, q .thickness, rw (losses-worked at) (q .table)))
+
+restore-requires : tie.Need-restore-requires
+restore-requires c κs = let q = asked (start (from-judged (c .before .before .before))) .workable in (q .layers .0, q .layers .1, omega (arith, q .columns), q .columns .1)
+
+halted-requires-2 : tie.Need-halted-requires-2
+halted-requires-2 c κs = tt
+
+returns-2 : tie.Need-returns-2
+returns-2 c =
+    let n = c .before .before .before .before in
+    let at = from-judged (n .before) in
+    let s = start at in
+    let h = halted-is (held s) (s .args .terms .intake) (s .args .course .pumped) (s .args .course .time) (n .before .too-deep .result) (omega (arith, n .if2 .taken)) (number-is (n .before)) in
+    record { answer = c .halted2 .ensures ∙ h .0; losses = undone at (c .before .restore .ensures) ∙ h .1; scratch = at .work-step .ensures .scratch }
+
+fit : (c : tie.Else2) → let a = start (from-judged (c .before)) .args in (a .terms .rate * a .terms .dt < 2 ^ 64) × (a .course .pumped + a .terms .rate * a .terms .dt < 2 ^ 64) × (a .course .time + a .terms .dt < 2 ^ 64)
+fit c = totals-fit (asked (start (from-judged (c .before))))
+
+mul-pumped : tie.Need-mul-pumped
+mul-pumped c = record { fits = fit (c .before) .0 }
+
+add-pumped : tie.Need-add-pumped
+add-pumped c = record { fits = fit (c .before .before) .1 }
+
+add-time : tie.Need-add-time
+add-time c = record { fits = fit (c .before .before .before .before) .2 }
+
+returns-3 : tie.Need-returns-3
+returns-3 c =
+    let n = c .before .before .before .before in
+    let at = from-judged (n .before) in
+    let s = start at in
+    let h = taken (held s) (s .args .terms .intake) (s .args .course .pumped) (s .args .course .time) (sym (n .if2 .left) ∙ number-is (n .before)) (well-worked at) (inflow-worked at) (losses-worked at) in
+    record { answer = h .0; losses = h .1; scratch = at .work-step .ensures .scratch }
+
+pub advance-spec : {M : Type 1} → statement M
+advance-spec =
+    tie.close
+    (tie.spec
+    totals-pass-requires
+    halted-requires
+    returns
+    work-step-requires
+    too-deep-requires
+    restore-requires
+    halted-requires-2
+    returns-2
+    mul-pumped
+    add-pumped
+    add-time
+    returns-3)

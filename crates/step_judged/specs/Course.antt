@@ -1,0 +1,75 @@
+-- One step of a run by slots, where 14, 7 and 8 let it pass: what 9 to 11 say, and what becomes of the losses, the well's V, totals and time.
+-- Inner definitions, for the contract of `advance`. What the refusals say of places and faces stands with the network.
+use mathlib.Core.Path.{_≡_}
+use mathlib.Core.Bool.{Bool, not}
+use mathlib.Core.List.{List, [], _∷_}
+use Prim.Native.Nat.{ℕ, zero, suc, _+_, _*_, _-_, _<_, _≤_}
+use lib.IntN.{ℤ, pos}
+use lib.Signed.{_≤ℤ_}
+use Rattle.laws.specs.Lists.{first}
+use Rattle.limits.specs.Limits.{totalLimit, drawdownLimit}
+use Rattle.record.specs.declared.Outcome.{Outcome}
+use Rattle.validity_drawdowns.specs.Drawdowns.{deeper}
+use Rattle.step_conditions.specs.Conditions.{totalsFull, Filled, tableWithin}
+use Rattle.step_sweep.specs.declared.Terms.{Terms}
+use Rattle.step_sweep.specs.Worked.{Lent, wellAfter, inflowAfter, lossesOf, Workable, Scratch}
+use Rattle.step_judged.specs.declared.Advanced.{Advanced}
+
+-- the number of the first of 10 and 11 that forbids a step of these terms, 0 if none does, by V of the well and of the cells after it
+unfoldable pub tooDeep : Terms → ℤ → List ℕ → List ℤ → ℕ
+tooDeep terms wellLoss storages losses = first (
+    (deeper (1000 * terms .intake) (terms .«well_storage») wellLoss, 10)
+    ∷ (not (tableWithin (terms .columns) (terms .thickness) storages losses), 11)
+    ∷ [])
+
+module _ (a : Lent) (intake pumped time : ℕ) where
+  -- 10: the well's D passes 1000×p
+  abbrev pub wellDeep : Bool
+  wellDeep = deeper (1000 * intake) (a .wellStorage) (wellAfter a)
+
+  -- 11: a D of layer 1 passes 1000×b_1
+  abbrev pub tableDeep : Bool
+  tableDeep = not (tableWithin (a .columns) (a .thickness) (a .storages) (lossesOf a))
+
+  -- the number of the first of 9 to 11 that forbids the step, 0 if none does
+  unfoldable pub halts : ℕ
+  halts = first ((totalsFull pumped time (a .rate) (a .dt), 9) ∷ (wellDeep, 10) ∷ (tableDeep, 11) ∷ [])
+
+  -- what becomes of a step that this number forbids
+  unfoldable pub courseAfter : ℕ → Advanced
+  courseAfter zero = record {
+    outcome = Outcome.Taken;
+    course = record { «well_loss» = wellAfter a; pumped = pumped + a .rate * a .dt; inflow = inflowAfter a; time = time + a .dt };
+  }
+  courseAfter (suc n) = record {
+    outcome = Outcome.Refused (suc n);
+    course = record { «well_loss» = a .wellLoss; pumped = pumped; inflow = a .inflow; time = time };
+  }
+
+  -- and of the losses
+  unfoldable pub lossesKept : ℕ → List ℤ
+  lossesKept zero = lossesOf a
+  lossesKept (suc n) = a .losses
+
+  unfoldable pub advancedOf : Advanced
+  advancedOf = courseAfter halts
+
+  unfoldable pub keptOf : List ℤ
+  keptOf = lossesKept halts
+
+-- what is asked
+pub record Advancing (a : Lent) (p volume t : ℕ) : Type 0 where
+  pub workable : Workable a
+  pub pumped : volume ≤ totalLimit
+  pub time : t ≤ totalLimit
+  pub intake : 1000 * p ≤ drawdownLimit
+  pub thickness : 1000 * a .thickness ≤ drawdownLimit
+  pub wellStorage : 0 < a .wellStorage
+  pub wellLoss : pos 0 ≤ℤ wellAfter a
+  pub table : Filled (a .columns - 1) (a .storages) (lossesOf a)
+
+-- what `advance` gives: the answer, the losses after the step or as they were, and the arrays worked in
+pub record Advances (a : Lent) (intake pumped time : ℕ) (advanced : Advanced) (after : List ℤ) (ds cs : List ℕ) (ws vs : List ℤ) : Type 0 where
+  pub answer : advanced ≡ advancedOf a intake pumped time
+  pub losses : after ≡ keptOf a intake pumped time
+  pub scratch : Scratch (a .layers) (a .columns) (a .horizontal) ds cs ws vs

@@ -1,0 +1,197 @@
+-- What is known where 14, 7 and 8 let a step pass, and the answers of a step.
+--     refused-14, refused-7, refused-8      the answer where one of these refuses
+--     asks-terms        what `step_judged::advance` asks
+--     well-back, inflow-back                what the machine reads back of the course
+--     stepped           what `step_judged::advance` gives is the step's answer
+--     scratch-zeros     arrays of zeros, and C itself, may be worked in
+use mathlib.Core.Path.{_≡_, refl, sym, ap, _∙_}
+use mathlib.Core.Bool.{true, false, not}
+use mathlib.Core.List.{List}
+use Prim.Native.Nat.{ℕ, zero, suc, _+_, _*_, _-_, _≤_, _<_}
+use native.Mathlib.Omega.{arith}
+use lib.Dec.{eqb, ltb}
+use lib.IntN.{ℤ, pos}
+use lib.ListN.{getD, replicate, length-replicate}
+use lib.Signed.{_≤ℤ_}
+use borrow.Author.Tests.{ltb-false}
+use mir.Syntax.{w64}
+use mir.Val.{toZ, ofZ}
+use Rattle.laws.specs.Fill.{getD-same}
+use Rattle.laws.specs.Lists.{first}
+use Rattle.laws.specs.Refusal.{first-is}
+use Rattle.laws.specs.Refusal.First.{hit, skip}
+use Rattle.laws.specs.Sums.{or-no}
+use Rattle.limits.specs.Limits.{rateLimit, lengthLimit}
+use Rattle.network.specs.Network.{Network, State, lossAt, storageAt, lossesAfter, moved, lengthOut, rateOrLengthOut, stable, unstable, totalsPass, wellTooDeep, tableTooDeep, stepTests}
+use Rattle.network.specs.Grid.{place, onePerPlace, networkOf}
+use Rattle.network.specs.laws.Bounds.{losses-after}
+use Rattle.network.specs.laws.Places.{place-below}
+use Rattle.site.specs.Laws.{Counts, counts-hold, numbers-hold}
+use Rattle.record.specs.declared.Record.{Record}
+use Rattle.record.specs.declared.Answer.{Answer}
+use Rattle.record.specs.declared.Outcome.the-variants.{Refused}
+use Rattle.record.specs.Record.{slot, gridOf, stateOf, outcomeOf, answerOf}
+use Rattle.validity.specs.Validity.{valid}
+use Rattle.validity.specs.Laws.{Valid, valid-record, valid-proper}
+use Rattle.validity_drawdowns.specs.Drawdowns.{deeper}
+use Rattle.step_conditions.specs.Conditions.{totalsFull, Filled}
+use Rattle.step_conditions.specs.Laws.{well-network, table-network}
+use Rattle.step_sweep.specs.declared.Terms.{Terms}
+use Rattle.step_sweep.specs.Worked.{Lent, lent, lossesOf, Scratch}
+use Rattle.step_judged.specs.declared.Advanced.{Advanced}
+use Rattle.step_judged.specs.Course.{wellDeep, tableDeep, halts, courseAfter, lossesKept, advancedOf, keptOf, Advancing, Advances}
+use Rattle.step_judged.proofs.Laws as course
+use Rattle.step_places.specs.Flows.{termsOf, lentOf}
+use Rattle.step_places.specs.Worked.{workable, worked-well, worked-inflow, worked-losses, worked-cell}
+use Rattle.step_rules.specs.Step.{withState, stepRefusal, stepOf}
+use Rattle.step_rules.specs.Ready.{Ready, withCourse}
+
+-- the answer of a refused step
+abbrev pub refused : ℕ → Record → Answer
+refused n r = record { outcome = Refused n; «record» = r }
+
+module _ (r : Record) (rate dt : ℕ) where
+  abbrev N : Network
+  N = networkOf (gridOf r)
+
+  abbrev s : State
+  s = stateOf r
+
+  abbrev a : Lent
+  a = lentOf r rate dt
+
+  refused-is : (n : ℕ) → 0 < n → n ≡ stepRefusal r rate dt → refused n r ≡ stepOf r rate dt
+  unfolding stepOf answerOf outcomeOf
+  refused-is zero h e = absurd (omega arith)
+  refused-is (suc n) h e = rw (← e)
+
+  pub refused-14 : valid r ≡ false → refused 14 r ≡ stepOf r rate dt
+  unfolding stepRefusal
+  refused-14 e = refused-is 14 (omega arith) (first-is (hit (ap not e)))
+
+  pub refused-7 : valid r ≡ true → rateOrLengthOut rate dt ≡ true → refused 7 r ≡ stepOf r rate dt
+  unfolding stepRefusal stepTests
+  refused-7 ok e = refused-is 7 (omega arith) (first-is (skip (ap not ok) (hit e)))
+
+  module _ (ok : valid r ≡ true) where
+    known : Valid r
+    known = valid-record r ok
+
+    counted : Counts (r .site)
+    counted = counts-hold (r .site) (known .counts)
+
+    pub few-layers : r .site .layers ≤ 20
+    few-layers = counted .layers-most
+
+    pub refused-8 : rateOrLengthOut rate dt ≡ false → stable N dt ≡ false → refused 8 r ≡ stepOf r rate dt
+    unfolding stepRefusal stepTests unstable
+    refused-8 sized e = refused-is 8 (omega arith) (first-is (skip (ap not ok) (skip sized (hit (ap not e)))))
+
+  module _ (y : Ready r rate dt) where
+    v : Valid r
+    v = known (y .passed)
+
+    small : (rate ≤ rateLimit) × (dt ≤ lengthLimit)
+    unfolding rateOrLengthOut lengthOut
+    small =
+        let tests = or-no (ltb rateLimit rate) (lengthOut dt) (y .sized) in
+        (ltb-false rateLimit rate (tests .0), ltb-false lengthLimit dt (or-no (eqb dt 0) (ltb lengthLimit dt) (tests .1) .1))
+
+    -- ---- what is asked
+
+    abbrev after : List ℤ
+    after = lossesAfter N (s .losses) rate dt
+
+    natural : (p : ℕ) → p < N .places → pos 0 ≤ℤ lossAt after p
+    natural = losses-after N (valid-proper r v) s (v .kept) dt (y .steady) rate
+
+    cell-is : (j : ℕ) → suc j < r .site .columns → getD (lossesOf a) j (pos 0) ≡ lossAt after (place (gridOf r) 0 (suc j))
+    cell-is j h = ap (λ n. getD (lossesOf a) n (pos 0)) top ∙ worked-cell r v rate dt 0 j (omega (arith, counted (y .passed) .layers-least)) h
+      where
+        top : j ≡ 50 * 0 + j
+        top = omega arith
+
+    table-filled : Filled (r .site .columns - 1) (r .storages) (lossesOf a)
+    unfolding networkOf gridOf slot
+    table-filled = record {
+      storage = λ k h. stored k (v .coefficients .storage 0 (suc k) (omega (arith, counted (y .passed) .layers-least)) (omega arith) (omega arith) .least);
+      loss = λ k h. rw (cell-is k (omega arith)) (natural (place (gridOf r) 0 (suc k)) (place-below (gridOf r) 0 k (omega (arith, counted (y .passed) .layers-least)) (omega arith)));
+    }
+      where
+        top : (k : ℕ) → 50 * 0 + (suc k - 1) ≡ k
+        top k = omega arith
+
+        stored : (k : ℕ) → 1 ≤ getD (r .storages) (50 * 0 + (suc k - 1)) 0 → 0 < getD (r .storages) k 0
+        stored k h = omega (arith, rw (top k) at h)
+
+    asks : Advancing (lentOf r rate dt) (r .site .intake) (r .pumped) (r .time)
+    unfolding stateOf networkOf gridOf storageAt onePerPlace
+    asks = record {
+      workable = workable r v rate dt (y .steady) (small .0) (small .1);
+      pumped = v .kept .pumped;
+      time = v .kept .time;
+      intake = valid-proper r v .intake;
+      thickness = omega (arith, numbers-hold (r .site) (v .numbers) .layer 0 (omega (arith, counted (y .passed) .layers-least)) .thickness-most);
+      wellStorage = valid-proper r v .storages 0 (valid-proper r v .well);
+      wellLoss = rw (worked-well r v rate dt) (natural 0 (valid-proper r v .well));
+      table = table-filled;
+    }
+
+    -- the course before the step, as the machine reads it back
+    pub well-back : toZ w64 (ofZ w64 (r .«well_loss»)) ≡ r .«well_loss»
+    well-back = course.well-back asks
+
+    pub inflow-back : toZ w64 (ofZ w64 (r .inflow)) ≡ r .inflow
+    inflow-back = course.inflow-back asks
+
+    -- ---- the answer
+
+    -- the tests of 8 to 11 by slots are the network's
+    stands : unstable N dt ≡ false
+    unfolding unstable
+    stands = ap not (y .steady)
+
+    totals-test : totalsPass s rate dt ≡ totalsFull (r .pumped) (r .time) rate dt
+    unfolding totalsPass stateOf
+    totals-test = refl
+
+    well-test : wellTooDeep N after ≡ wellDeep a (r .site .intake) (r .pumped) (r .time)
+    well-test = sym (ap (deeper (1000 * r .site .intake) (r .«well_storage»)) (worked-well r v rate dt) ∙ well-network r after)
+
+    table-test : tableTooDeep N after ≡ tableDeep a (r .site .intake) (r .pumped) (r .time)
+    table-test = sym (table-network r after (v .counts) (lossesOf a) cell-is)
+
+    -- so the number that halts the step is the one that refuses it
+    refusal-is : stepRefusal r rate dt ≡ halts a (r .site .intake) (r .pumped) (r .time)
+    unfolding stepRefusal stepTests first halts
+    refusal-is = rw (y .passed, y .sized, stands, totals-test, well-test, table-test)
+
+    -- the answer by that number
+    by-number : (n : ℕ) → _≡_ {A = Answer}
+        (record { outcome = courseAfter a (r .site .intake) (r .pumped) (r .time) n .outcome; «record» = withCourse r (courseAfter a (r .site .intake) (r .pumped) (r .time) n .course) (lossesKept a (r .site .intake) (r .pumped) (r .time) n) })
+        (answerOf n r (withState r (moved N s rate dt)))
+    unfolding courseAfter lossesKept answerOf outcomeOf withState moved stateOf
+    by-number zero = rw (worked-losses r v rate dt, worked-well r v rate dt, worked-inflow r v rate dt)
+    by-number (suc n) = refl
+
+    -- what `advance` asks and gives, by the terms of the record's run
+    module _ {terms : Terms} {multiplier : ℕ} (e : terms ≡ termsOf r multiplier rate dt) where
+      abbrev held : Lent
+      held = lent terms (r .«well_loss») (r .inflow) (r .screen) (r .horizontal) (r .vertical) (r .storages) (r .losses)
+
+      pub asks-terms : Advancing held (terms .intake) (r .pumped) (r .time)
+      asks-terms = rw e asks
+
+      pub stepped : {x : Advanced} {ls : List ℤ} {ds cs : List ℕ} {ws vs : List ℤ} → Advances held (terms .intake) (r .pumped) (r .time) x ls ds cs ws vs
+          → _≡_ {A = Answer} (record { outcome = x .outcome; «record» = withCourse r (x .course) ls }) (stepOf r rate dt)
+      unfolding stepOf advancedOf keptOf
+      stepped h = let g = rw e at h in rw (g .answer, g .losses, refusal-is) (by-number (halts a (r .site .intake) (r .pumped) (r .time)))
+
+pub scratch-zeros : (layers columns : ℕ) (horizontal : List ℕ) → Scratch layers columns horizontal (replicate 1000 0) horizontal (replicate 1000 (pos 0)) (replicate 1000 (pos 0))
+scratch-zeros layers columns horizontal = record {
+  long = (length-replicate {A = ℕ} 1000 0, refl, length-replicate 1000 (pos 0), length-replicate 1000 (pos 0));
+  depths = λ k u. getD-same 1000 k 0;
+  conductances = λ k h. refl;
+  down = λ k u. getD-same 1000 k (pos 0);
+  before = λ k u. getD-same 1000 k (pos 0);
+}

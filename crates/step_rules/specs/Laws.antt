@@ -1,0 +1,111 @@
+-- A step taken on a valid record leaves a valid one: laws only, nothing to believe.
+--     same-grid        a record with another state has the same grid, and so the same network (same-network)
+--     same-state       and that state, where the state has one loss for each place
+--     step-valid       so 14 does not refuse the record that a step taken gives
+use mathlib.Core.Path.{_≡_, refl, sym, ap, ap₂, fun-ext, _∙_}
+use mathlib.Core.Bool.{Bool, true, false, cond, not, _||_}
+use Prim.Native.Nat.{ℕ, zero, suc, _+_, _*_, _-_, _/_, _%_, _<_}
+use native.Mathlib.Nat.{zero-add}
+use native.Mathlib.Omega.{arith}
+use lib.IntN.{ℤ, pos}
+use lib.ListN.{length, getD}
+use borrow.Author.Tests.{lt-ltb}
+use Rattle.laws.specs.Refusal.{passed}
+use Rattle.laws.specs.Rows.{all-from}
+use Rattle.laws.specs.Sums.{getD-map-range}
+use Rattle.network.specs.Network.{State, lossAt, moved, stepTests, refusal}
+use Rattle.network.specs.Grid.{Grid, place, placeCount, networkOf, onePerPlace}
+use Rattle.network.specs.Kept.{Kept}
+use Rattle.network.specs.laws.Places.{one-per-place}
+use Rattle.network.specs.laws.Preserve.{kept-moved}
+use Rattle.site.specs.Laws.{Counts, counts-hold}
+use Rattle.site.specs.Site.{isScreened}
+use Rattle.record.specs.declared.Record.{Record}
+use Rattle.record.specs.Record.{slot, slots, isCell, acrossIn, gridOf, stateOf}
+use Rattle.coefficient_slots.specs.Slots.{usedSlot, coefficientsUnused}
+use Rattle.validity.specs.Validity.{isZeroℤ, lossesUnused, valid}
+use Rattle.validity.specs.Laws.{Valid, valid-record, record-valid, valid-proper}
+use Rattle.step_rules.specs.Step.{withState, stepRefusal}
+
+module _ (r : Record) (s : State) where
+  same-across : acrossIn (withState r s) ≡ acrossIn r
+  unfolding withState acrossIn
+  same-across = fun-ext (λ i. fun-ext (λ j. elim j [ zero ↦ refl | suc k ↦ refl ]))
+
+  pub same-grid : gridOf (withState r s) ≡ gridOf r
+  unfolding gridOf withState
+  same-grid = ap {B = Grid} (λ f. record {
+    layers = r .site .layers;
+    columns = r .site .columns;
+    screened = isScreened (r .site .screened);
+    across = f;
+    down = λ i j. getD (r .vertical) (slot i j) 0;
+    storage = λ i j. getD (r .storages) (slot i j) 0;
+    wellStorage = r .«well_storage»;
+    thickness = getD (r .site .thickness) 0 0;
+    intake = r .site .intake;
+  }) same-across
+
+  pub same-network : networkOf (gridOf (withState r s)) ≡ networkOf (gridOf r)
+  same-network = ap networkOf same-grid
+
+  -- V of a layer and column, 0 where there is no cell
+  abbrev loss : ℕ → ℕ → ℤ
+  loss i j = cond (isCell (r .site) i j) (lossAt (s .losses) (place (gridOf r) i j)) (pos 0)
+
+  in-slot : (k : ℕ) → k < 1000 → getD (slots loss) k (pos 0) ≡ loss (k / 50) (k % 50 + 1)
+  unfolding slots
+  in-slot k h = getD-map-range (λ k. loss (k / 50) (k % 50 + 1)) (pos 0) 0 1000 k h ∙ ap (λ n. loss (n / 50) (n % 50 + 1)) (zero-add k)
+
+  module _ (counts : Counts (r .site)) where
+    of-cell : (i j : ℕ) → i < r .site .layers → suc j < r .site .columns → getD (slots loss) (slot i (suc j)) (pos 0) ≡ lossAt (s .losses) (place (gridOf r) i (suc j))
+    unfolding isCell slot
+    of-cell i j hi hj =
+        in-slot (50 * i + (suc j - 1)) (omega (arith, counts .layers-most, counts .columns-most))
+        ∙ ap₂ loss layer column ∙ rw (lt-ltb i (r .site .layers) hi, lt-ltb (suc j) (r .site .columns) hj)
+      where
+        layer : (50 * i + (suc j - 1)) / 50 ≡ i
+        layer = omega (arith, counts .columns-most)
+
+        column : (50 * i + (suc j - 1)) % 50 + 1 ≡ suc j
+        column = omega (arith, counts .columns-most)
+
+    pub same-state : length (s .losses) ≡ placeCount (gridOf r) → stateOf (withState r s) ≡ s
+    unfolding stateOf withState gridOf lossAt
+    same-state listed = rw (← losses)
+      where
+        losses : s .losses ≡ onePerPlace (gridOf (withState r s)) (lossAt (s .losses) 0) (λ i j. getD (slots loss) (slot i j) (pos 0))
+        losses = rw same-grid (one-per-place (gridOf r) (lossAt (s .losses) 0) (λ i j. getD (slots loss) (slot i j) (pos 0)) (pos 0) (s .losses) listed refl (λ i j hi hj. sym (of-cell i j hi hj)))
+
+  none-unused : lossesUnused (withState r s) ≡ true
+  unfolding lossesUnused withState
+  none-unused = all-from (λ k. usedSlot (isCell (r .site)) k || isZeroℤ (getD (slots loss) k (pos 0))) 1000 (λ k h. rw (in-slot k h) (either (isCell (r .site) (k / 50) (k % 50 + 1)) (lossAt (s .losses) (place (gridOf r) (k / 50) (k % 50 + 1)))))
+    where
+      either : (t : Bool) (z : ℤ) → (t || isZeroℤ (cond t z (pos 0))) ≡ true
+      either true z = refl
+      either false z = refl
+
+module _ (r : Record) (rate dt : ℕ) where
+  pub step-valid : valid r ≡ true → stepRefusal r rate dt ≡ 0 → valid (withState r (moved (networkOf (gridOf r)) (stateOf r) rate dt)) ≡ true
+  unfolding withState stepRefusal refusal coefficientsUnused networkOf
+  step-valid ok e = record-valid (withState r next) (record {
+    counts = v .counts;
+    numbers = v .numbers;
+    radii = v .radii;
+    screen = v .screen;
+    siteUnused = v .siteUnused;
+    coefficientsUnused = v .coefficientsUnused;
+    lossesUnused = none-unused r next;
+    coefficients = rw (same-grid r next) (v .coefficients);
+    wellStorage = v .wellStorage;
+    kept = rw (same-grid r next, same-state r next (counts-hold (r .site) (v .counts)) (kept .listed)) kept;
+  })
+    where
+      v : Valid r
+      v = valid-record r ok
+
+      next : State
+      next = moved (networkOf (gridOf r)) (stateOf r) rate dt
+
+      kept : Kept (networkOf (gridOf r)) next
+      kept = kept-moved (networkOf (gridOf r)) (valid-proper r v) (stateOf r) (v .kept) rate dt (passed (not (valid r)) 13 (stepTests (networkOf (gridOf r)) (stateOf r) rate dt) e .1)

@@ -1,0 +1,4 @@
+pub mod Step
+pub mod Steps
+pub mod Ready
+pub mod Laws

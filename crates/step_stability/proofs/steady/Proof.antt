@@ -1,0 +1,37 @@
+-- `step_stability::steady`: 8 at the well, then at the cells.
+use mathlib.Core.Path.{sym, _∙_}
+use borrow.Author.Needs.{needs}
+use borrow.Author.Tests.{not-true, not-false}
+use Rattle.step_stability.specs.Stability.{slotsSteady}
+use Rattle.step_stability.proofs.steady.Statement.{statement}
+use Rattle.step_stability.proofs.steady.Tie as tie
+use Rattle.step_stability.proofs.steady.Reads as reads
+use Rattle.step_stability.proofs.steady.Lts as lts
+use Rattle.step_stability.proofs.cells_steady.Reads as cells-steady-reads
+use Rattle.step_stability.proofs.well_sum.Reads as well-sum-reads
+use Rattle.words.proofs.multiply.product_le.Reads as product-le-reads
+
+well-sum-requires : tie.Need-well-sum-requires
+well-sum-requires c κs = search needs
+
+product-le-requires : tie.Need-product-le-requires
+product-le-requires c κs = search needs
+
+returns : tie.Need-returns
+unfolding slotsSteady
+returns c = rw (sym (rw (c .before .before .well-sum .ensures) at (c .before .product-le .ensures)) ∙ not-true _ (c .if1 .taken))
+
+mul-cells-steady : tie.Need-mul-cells-steady
+mul-cells-steady c = search needs
+
+cells-steady-requires : tie.Need-cells-steady-requires
+cells-steady-requires c κs = search needs
+
+returns-2 : tie.Need-returns-2
+unfolding slotsSteady
+returns-2 c =
+    let p = c .before .before in
+    rw (sym (rw (p .before .well-sum .ensures) at (p .product-le .ensures)) ∙ not-false _ (c .before .if1 .left)) (c .cells-steady .ensures)
+
+pub steady-spec : {M : Type 1} → statement M
+steady-spec = tie.close (tie.spec well-sum-requires product-le-requires returns mul-cells-steady cells-steady-requires returns-2)
