@@ -5,12 +5,16 @@ const PI: u128 = 3_373_259_426;
 /// 2π × 2^30, as document 01 prints it.
 pub const TWO_PI: u128 = 6_746_518_852;
 /// Terms of the series for Λ.
-const TERMS: u128 = 16;
+const TERMS: u64 = 16;
 
 /// Λ(p, q): ln(p/q) × 2^30 for q < p ≤ 3q, by the written series.
 pub fn lambda(p: u64, q: u64) -> u128 {
     let (p, q) = (u128::from(p), u128::from(q));
-    let z = ((p - q) << 30) / (p + q);
+    u128::from(series((((p - q) << 30) / (p + q)) as u64))
+}
+
+/// Λ of every pair with a z, below 2^30. No product passes a word.
+pub fn series(z: u64) -> u64 {
     let w = (z * z) >> 30;
     let mut term = z;
     let mut sum = 0;

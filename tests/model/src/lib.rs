@@ -1,9 +1,9 @@
 //! The reference model: drawdown around a pumped well, in whole numbers, written from document 01 alone.
 //! Numbers are exact (u128 and i128 wherever a product may pass a word); floats follow the written order.
 
+pub mod changes;
 pub mod checksum;
 pub mod coefficients;
-pub mod damaged;
 pub mod geometry;
 pub mod grid;
 pub mod head_loss;
@@ -21,3 +21,4 @@ pub mod scenarios;
 pub mod site;
 pub mod step;
 pub mod text;
+pub mod worst;

@@ -1,10 +1,13 @@
 //! Λ held against the true logarithm, worked in floats.
 
 use crate::geometry::lambda;
-use crate::limits::WIDEST_RATIO;
+use crate::limits::{COLUMN_RADIUS, WIDEST_RATIO};
 
 /// How far Λ may be from ln(p/q) × 2^30.
 pub const TOLERANCE: f64 = 64.0;
+
+/// The largest doubled midsection radius, mm.
+pub const LARGEST: u64 = 2 * *COLUMN_RADIUS.end();
 
 /// ln(p/q) × 2^30; the error is far below 1.
 pub fn true_logarithm(p: u64, q: u64) -> f64 {
@@ -13,9 +16,7 @@ pub fn true_logarithm(p: u64, q: u64) -> f64 {
 
 /// Whether Λ(p, q) is defined.
 pub fn in_range(p: u64, q: u64) -> bool {
-    // Doubled midsection radii are at most twice 2×10^6.
-    const MOST: u64 = 4_000_000;
-    q < p && p <= MOST && p <= WIDEST_RATIO * q
+    q < p && p <= LARGEST && p <= WIDEST_RATIO * q
 }
 
 /// The worst of the lines held so far.
@@ -33,7 +34,7 @@ pub fn check(input: &str) -> Result<(Vec<String>, Worst), String> {
     let mut answers = Vec::new();
     let mut worst = Worst::default();
     for (above, line) in input.lines().enumerate() {
-        let wrong = |what: &str| format!("lambda, line {}: {what}: {line}", above + 1);
+        let wrong = |what: &str| format!("logarithm, line {}: {what}: {line}", above + 1);
         let numbers: Option<Vec<u64>> = line.split_whitespace().map(|word| word.parse().ok()).collect();
         let numbers = numbers.filter(|n| n.len() == 2 || n.len() == 3).ok_or_else(|| wrong("not p q or p q value"))?;
         let (p, q) = (numbers[0], numbers[1]);
@@ -52,7 +53,7 @@ pub fn check(input: &str) -> Result<(Vec<String>, Worst), String> {
         }
     }
     if answers.is_empty() && worst.lines == 0 {
-        return Err("lambda: no lines".to_string());
+        return Err("logarithm: no lines".to_string());
     }
     Ok((answers, worst))
 }

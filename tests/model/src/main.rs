@@ -1,13 +1,15 @@
 //! The command `model`: what the reference model says of a scenario on standard input.
 
-use reference_model::{damaged, listing, logarithm, report, scenarios};
+use reference_model::geometry::lambda;
+use reference_model::{changes, listing, logarithm, report, scenarios, worst};
 use std::io::{self, BufWriter, Read, Write};
 use std::process::ExitCode;
 
-const USAGE: &str = "usage: model listing|readings|heads|sums|start|brief|entries|runs|damaged < scenario
+const USAGE: &str = "usage: model listing|readings|heads|sums|start|brief|entries|runs|records < scenario
        model entry NUMBER < scenario
        model scenarios SEED COUNT DIRECTORY
-       model lambda < lines of 'p q' or 'p q value'";
+       model logarithm < lines of 'p q' or 'p q value'
+       model worst COUNT";
 
 fn main() -> ExitCode {
     let arguments: Vec<String> = std::env::args_os().skip(1).map(|word| word.to_string_lossy().into_owned()).collect();
@@ -32,7 +34,7 @@ fn run(words: &[&str]) -> Result<(), String> {
         ["start"] => written(report::write_start(&input()?, &mut out)),
         ["brief"] => written(report::write_brief(&input()?, &mut out)),
         ["runs"] => written(report::write_runs(&input()?, &mut out)),
-        ["damaged"] => written(damaged::write(&input()?, &mut out)),
+        ["records"] => written(changes::write(&input()?, &mut out)),
         ["entries"] => written(report::write_entries(&input()?, &mut out)),
         ["entry", number] => {
             let number = whole("NUMBER", number)?;
@@ -43,7 +45,11 @@ fn run(words: &[&str]) -> Result<(), String> {
             scenarios::write_all(seed, count, directory)
                 .map_err(|error| format!("cannot write to {directory}: {error}"))
         }
-        ["lambda"] => lambda(&input()?, &mut out),
+        ["logarithm"] => logarithms(&input()?, &mut out),
+        ["worst", count] => {
+            let pairs = worst::worst(worst::RATIOS, whole("COUNT", count)? as usize);
+            written(pairs.iter().try_for_each(|pair| writeln!(out, "{} {} {}", pair.p, pair.q, lambda(pair.p, pair.q))))
+        }
         _ => Err(format!("bad arguments\n{USAGE}")),
     }?;
     written(out.flush())
@@ -67,8 +73,8 @@ fn whole(name: &str, word: &str) -> Result<u64, String> {
 }
 
 /// Answers lines `p q`, holds lines `p q value`, and says the worst of those held.
-fn lambda(bytes: &[u8], out: &mut impl Write) -> Result<(), String> {
-    let input = std::str::from_utf8(bytes).map_err(|_| "lambda: standard input is no text".to_string())?;
+fn logarithms(bytes: &[u8], out: &mut impl Write) -> Result<(), String> {
+    let input = std::str::from_utf8(bytes).map_err(|_| "logarithm: standard input is no text".to_string())?;
     let (answers, worst) = logarithm::check(input)?;
     for answer in answers {
         written(writeln!(out, "{answer}"))?;
@@ -77,7 +83,7 @@ fn lambda(bytes: &[u8], out: &mut impl Write) -> Result<(), String> {
         let (lines, p, q) = (worst.lines, worst.p, worst.q);
         written(writeln!(
             out,
-            "lambda: {lines} lines held, the worst {:.1} from the true logarithm at {p} {q}",
+            "logarithm: {lines} lines held, the worst {:.1} from the true logarithm at {p} {q}",
             worst.difference
         ))?;
     }

@@ -10,6 +10,7 @@ mod runs;
 use crate::random::Random;
 use crate::text;
 use draft::Draft;
+use std::collections::HashSet;
 use std::path::Path;
 use std::{fs, io};
 
@@ -58,6 +59,12 @@ impl Scenarios {
         }
     }
 
+    /// The texts in the order of their numbers, without those that are byte for byte an earlier one.
+    pub fn different(&self) -> impl Iterator<Item = Case> + '_ {
+        let mut texts = HashSet::new();
+        (0..).map(|number| self.case(number)).filter(move |case| texts.insert(case.text.clone()))
+    }
+
     /// The random texts: grids of every size in turn between the runs and refusals that are aimed at.
     fn drawn(&self, round: u64) -> Case {
         let mut random = Random::new(self.seed ^ (round + 1).wrapping_mul(0xD6E8_FEB8_6659_FD93));
@@ -80,7 +87,8 @@ impl Scenarios {
             10 => damage::one(random, turn + 5),
             11 => damage::several(random),
             12 => Case::accepted("cross-flow", &runs::cross_flow(random)),
-            13 => Case::accepted("long", &runs::long(random)),
+            13 if turn % 4 == 0 => Case::accepted("long", &runs::long(random)),
+            13 => damage::one(random, turn + 9),
             _ => {
                 let (layers, columns) = grid_size(self.seed, GRIDS * turn + kind / 2);
                 Case::accepted(&format!("grid-{layers}x{columns}"), &accepted::scenario(random, layers, columns))
@@ -108,13 +116,11 @@ pub fn grid_size(seed: u64, turn: u64) -> (usize, usize) {
     (2 + (number / 49) as usize, 2 + (number % 49) as usize)
 }
 
-/// Writes the first `count` texts of a seed into a directory, which is made if need be.
+/// Writes the first `count` different texts of a seed into a directory, which is made if need be.
 pub fn write_all(seed: u64, count: u64, directory: &str) -> io::Result<()> {
     fs::create_dir_all(directory)?;
-    let scenarios = Scenarios::new(seed);
-    for number in 0..count {
-        let case = scenarios.case(number);
-        fs::write(Path::new(directory).join(format!("{:05}-{}.txt", number + 1, case.name)), case.text)?;
+    for (number, case) in (1..=count).zip(Scenarios::new(seed).different()) {
+        fs::write(Path::new(directory).join(format!("{number:05}-{}.txt", case.name)), case.text)?;
     }
     Ok(())
 }

@@ -36,7 +36,7 @@ fn assert_message(output: Output) {
 
 #[test]
 fn bad_arguments_end_with_a_message() {
-    let bad: [&[&str]; 12] = [
+    let bad: [&[&str]; 14] = [
         &[],
         &["list"],
         &["listing", "more"],
@@ -48,7 +48,9 @@ fn bad_arguments_end_with_a_message() {
         &["scenarios", "1", "2"],
         &["scenarios", "one", "2", "x"],
         &["scenarios", "1", "2.5", "x"],
-        &["lambda", "1"],
+        &["logarithm", "1"],
+        &["worst"],
+        &["worst", "few"],
     ];
     for words in bad {
         assert_message(model(words, Stdio::null()));
@@ -58,11 +60,11 @@ fn bad_arguments_end_with_a_message() {
 #[test]
 fn unreadable_input_ends_with_a_message() {
     let path = directory("unreadable");
-    for words in [&["listing"][..], &["readings"], &["start"], &["brief"], &["entry", "1"], &["lambda"]] {
+    for words in [&["listing"][..], &["readings"], &["start"], &["brief"], &["entry", "1"], &["logarithm"]] {
         assert_message(model(words, File::open(&path).unwrap().into()));
     }
-    assert_message(model_on("lambda-bytes", &["lambda"], b"\xFF\xFE\n"));
-    assert_message(model_on("lambda-off", &["lambda"], b"600 200 1179626048\n"));
+    assert_message(model_on("logarithm-bytes", &["logarithm"], b"\xFF\xFE\n"));
+    assert_message(model_on("logarithm-off", &["logarithm"], b"600 200 1179626048\n"));
     let file = path.join("file");
     fs::write(&file, b"").unwrap();
     assert_message(model(&["scenarios", "1", "2", file.to_str().unwrap()], Stdio::null()));
@@ -70,7 +72,7 @@ fn unreadable_input_ends_with_a_message() {
 
 #[test]
 fn refused_scenarios_are_no_failure() {
-    for words in [["listing"], ["readings"], ["heads"], ["sums"], ["start"], ["brief"], ["damaged"]] {
+    for words in [["listing"], ["readings"], ["heads"], ["sums"], ["start"], ["brief"], ["records"]] {
         assert_eq!(printed(model_on(words[0], &words, b"\xFF")), "scenario 1\n");
     }
     assert_eq!(printed(model_on("entry", &["entry", "1"], b"")), "refused 1\n");
@@ -91,12 +93,12 @@ fn start_and_entries_are_printed() {
 }
 
 #[test]
-fn damaged_records_are_stepped() {
-    let damaged = printed(model_on("k-damaged", &["damaged"], &text_of(&NUMBERS)));
-    assert!(damaged.starts_with("unchanged taken "));
+fn changed_records_are_stepped() {
+    let records = printed(model_on("k-records", &["records"], &text_of(&NUMBERS)));
+    assert!(records.starts_with("unchanged taken "));
     // Three layers, layer 2 without screen, a time at its limit and one past it.
     for line in ["counts 3 refused 14", "numbers 25 refused 14", "totals 5 refused 9 ", "totals 6 refused 14"] {
-        assert!(damaged.contains(&format!("\n{line}")), "{line}");
+        assert!(records.contains(&format!("\n{line}")), "{line}");
     }
 }
 

@@ -9,5 +9,6 @@ mod logarithms;
 mod mistakes;
 mod records;
 mod runs;
+mod stored;
 mod texts;
 mod thiem;

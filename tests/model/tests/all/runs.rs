@@ -4,7 +4,7 @@ use crate::bore_k::equal;
 use crate::calls::{check_state, make, set_loss, Drawer};
 use reference_model::grid::Place;
 use reference_model::ledger::Ledger;
-use reference_model::listing::{listing, run_entry};
+use reference_model::listing::run_entry;
 use reference_model::mistake::Mistake;
 use reference_model::random::Random;
 use reference_model::readings;
@@ -86,19 +86,6 @@ fn whole_runs_agree_with_the_ledger() {
             assert_eq!(check_state(&record, &ledger), Ok(()));
         }
         assert!(ledger.deepest_well >= ledger.drawdown(Place::Well));
-    }
-}
-
-#[test]
-fn listings_show_every_refusal() {
-    let scenarios = Scenarios::new(5);
-    let listings: String = (0..scenarios.whole()).map(|number| listing(&scenarios.case(number).text)).collect();
-    for number in 1..=6 {
-        assert!(listings.lines().any(|line| line == format!("scenario {number}")), "no scenario {number}");
-    }
-    for number in 7..=11 {
-        let ends = |line: &str| line.starts_with("refused ") && line.ends_with(&format!(" {number}"));
-        assert!(listings.lines().any(ends), "no step refused with {number}");
     }
 }
 

@@ -1,0 +1,41 @@
+//! What the texts of tests/stored have among them.
+
+use reference_model::listing::listing;
+use reference_model::scenarios::{Case, Scenarios};
+use std::collections::BTreeSet;
+use std::fs;
+use std::path::PathBuf;
+
+fn repository() -> PathBuf {
+    PathBuf::from(env!("CARGO_MANIFEST_DIR")).join("../..")
+}
+
+/// Seed and count of the line `texts SEED COUNT CRATE`.
+fn seed_and_count() -> (u64, usize) {
+    let stored = fs::read_to_string(repository().join("tests/stored")).unwrap();
+    let line = stored.lines().find(|line| line.starts_with("texts ")).expect("a line of texts");
+    let words: Vec<&str> = line.split(' ').collect();
+    (words[1].parse().unwrap(), words[2].parse().unwrap())
+}
+
+#[test]
+fn stored_texts_show_every_edge_and_refusal() {
+    let (seed, count) = seed_and_count();
+    let scenarios = Scenarios::new(seed);
+    let cases: Vec<Case> = scenarios.different().take(count).collect();
+    let texts: BTreeSet<_> = cases.iter().map(|case| &case.text).collect();
+    assert_eq!(texts.len(), count, "texts that are equal");
+    for edge in (0..scenarios.whole()).step_by(2).map(|number| scenarios.case(number)) {
+        assert!(texts.contains(&edge.text), "no {}", edge.name);
+    }
+    assert!(texts.contains(&fs::read(repository().join("examples/bore-k.txt")).unwrap()), "no bore K");
+    let listings: String = cases.iter().map(|case| listing(&case.text)).collect();
+    for number in 1..=11 {
+        let start = if number <= 6 { "scenario" } else { "refused " };
+        let ends = |line: &str| line.starts_with(start) && line.ends_with(&format!(" {number}"));
+        assert!(listings.lines().any(ends), "no refusal {number}");
+    }
+    let sizes: BTreeSet<_> =
+        cases.iter().filter(|case| case.name.starts_with("grid-")).map(|case| &case.name).collect();
+    assert!(sizes.len() >= 50, "{} sizes of grids", sizes.len());
+}
