@@ -32,15 +32,15 @@ abbrev pub Row : Type 0
 Row = ℤ × ℤ
 
 -- the number of an outcome, 0 for taken
-unfoldable pub numberOf : Outcome → ℕ
-numberOf Taken = 0
-numberOf (Refused n) = n
+unfoldable pub outcomeNumber : Outcome → ℕ
+outcomeNumber Taken = 0
+outcomeNumber (Refused n) = n
 
 -- the rows for start's answer
 unfoldable pub startRows : Answer → List Row
 startRows answer =
     let r = answer .«record» in
-    (pos (numberOf (answer .outcome)), pos 0)  -- start accepts bore K
+    (pos (outcomeNumber (answer .outcome)), pos 0)  -- start accepts bore K
     ∷ (pos (logarithm 600 200), pos 1179625948)
     ∷ (pos (areaAt (r .site) 1), pos 753982)
     ∷ (pos (getD (r .screen) 1 0), pos 1143840361)  -- C of layer 2, well and column 1
@@ -82,7 +82,7 @@ rows text =
     let before = pumped 2 r in
     let after = pumped 3 r in
     startRows (startOf text)
-    ++ lengthRows (λ dt. numberOf (stepOf r 1000 dt .outcome))
+    ++ lengthRows (λ dt. outcomeNumber (stepOf r 1000 dt .outcome))
     ++ faceRows (gridOf before) (networkOf (gridOf before)) (stateOf before .losses)
     ++ depthRows (gridOf after) (networkOf (gridOf after)) (stateOf after .losses)
 
@@ -149,7 +149,7 @@ third-K = refl
 
 -- the rows of start
 start-agrees : Agree (startRows (record { outcome = Taken; «record» = startRecord siteK }))
-unfolding Agree startRows numberOf numbersK padded range terms ratio logarithm area horizontal vertical unconfinedStorage confinedStorage isScreened midsection sectionCount sectionOf restOf fromColumns fromWell fromLoss field siteOf slot slots layerSlots isCell hasBelow hasScreen logarithmAt areaAt acrossOf downOf storageOf startRecord
+unfolding Agree startRows outcomeNumber numbersK padded range terms ratio logarithm area horizontal vertical unconfinedStorage confinedStorage isScreened midsection sectionCount sectionOf restOf fromColumns fromWell fromLoss field siteOf slot slots layerSlots isCell hasBelow hasScreen logarithmAt areaAt acrossOf downOf storageOf startRecord
 start-agrees = refl
 
 answer-agrees : Agree (startRows (startOf boreK))
@@ -177,12 +177,12 @@ network-of : {s : State} (r : Record) → InState s r → networkOf (gridOf r) �
 network-of r h = network-is h ∙ network-K
 
 -- the rows of the first step's length
-length-computed : Agree (lengthRows (λ dt. numberOf (outcomeOf (refusal networkK state0 1000 dt))))
-unfolding Agree lengthRows numberOf outcomeOf networkK state0 allBelow first ifℕ ifℤ sumℕ sumℤ range some lossAt storageAt drawdown saturated inUse water crossing flow outflow lossAfter lossesAfter lengthOut rateOrLengthOut conductanceSum stable unstable totalsPass wellTooDeep tableTooDeep stepTests refusal
+length-computed : Agree (lengthRows (λ dt. outcomeNumber (outcomeOf (refusal networkK state0 1000 dt))))
+unfolding Agree lengthRows outcomeNumber outcomeOf networkK state0 allBelow first ifℕ ifℤ sumℕ sumℤ range some lossAt storageAt drawdown saturated inUse water crossing flow outflow lossAfter lossesAfter lengthOut rateOrLengthOut conductanceSum stable unstable totalsPass wellTooDeep tableTooDeep stepTests refusal
 length-computed = refl
 
-length-agrees : (r : Record) → InState state0 r → Agree (lengthRows (λ dt. numberOf (stepOf r 1000 dt .outcome)))
-length-agrees r h = subst (λ f. Agree (lengthRows f)) (sym (fun-ext (λ dt. ap numberOf (outcome-is h 1000 dt) ∙ ap (λ N. numberOf (outcomeOf (refusal N state0 1000 dt))) network-K))) length-computed
+length-agrees : (r : Record) → InState state0 r → Agree (lengthRows (λ dt. outcomeNumber (stepOf r 1000 dt .outcome)))
+length-agrees r h = subst (λ f. Agree (lengthRows f)) (sym (fun-ext (λ dt. ap outcomeNumber (outcome-is h 1000 dt) ∙ ap (λ N. outcomeNumber (outcomeOf (refusal N state0 1000 dt))) network-K))) length-computed
 
 -- the rows of the third step
 faces-computed : Agree (faceRows (gridOf (startRecord siteK)) networkK (state2 .losses))
