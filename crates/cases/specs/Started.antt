@@ -14,7 +14,6 @@ use Rattle.site.specs.Columns.{logarithmAt, areaAt}
 use Rattle.site.specs.Site.{isScreened, midsection, layerTop, topmostScreened, storageHolds, layerHolds, layerAt, wellHolds, numbersHold, columnRises, radiiHold, screenHolds}
 use Rattle.sections.specs.Sections.{sectionCount, sectionOf, restOf, sectionTests, fromColumns, fromWell, fromLoss, fromPumping, leftOver, formTests, field, siteOf, repeatsHold}
 use Rattle.sections.specs.Laws.{form-numbered}
-use Rattle.record.specs.declared.Outcome.the-variants.{Taken}
 use Rattle.record.specs.Record.{outcomeOf, answerOf}
 use Rattle.coefficient_slots.specs.Slots.{conductancesHold, storagesHold, coefficientsHold}
 use Rattle.coefficient_cells.specs.Cells.{acrossOf, downOf, storageOf}
@@ -66,6 +65,6 @@ pub scenario-K : scenarioOf boreK ≡ siteOf numbersK
 unfolding scenarioOf
 scenario-K = ap siteOf numbers-K
 
-pub started : startOf boreK ≡ record { outcome = Taken; «record» = startRecord (siteOf numbersK) }
-unfolding startOf answerOf outcomeOf
+pub started : startOf boreK ≡ record { outcome = outcomeOf 0; «record» = startRecord (siteOf numbersK) }
+unfolding startOf answerOf
 started = rw (accepted, scenario-K)

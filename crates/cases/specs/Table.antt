@@ -23,7 +23,7 @@ use Rattle.coefficients.specs.Coefficients.{scenarioGrid, startRecord}
 use Rattle.scenario.specs.Scenario.{startOf}
 use Rattle.step_rules.specs.Step.{stepOf}
 use Rattle.start_laws.specs.Laws.{Carries, network-is, begun}
-use Rattle.start_laws.specs.Steps.{onward, outcome-is, carries-on}
+use Rattle.start_laws.specs.Steps.{stateAfter, outcome-is, carries-on}
 use Rattle.cases.specs.BoreK.{boreK, numbersK}
 use Rattle.cases.specs.Started.{scenario-K, started}
 
@@ -135,21 +135,21 @@ rest-K : atRest networkK ≡ state0
 unfolding networkK atRest state0
 rest-K = refl
 
-first-K : onward networkK state0 1000 500000 ≡ state1
+first-K : stateAfter networkK state0 1000 500000 ≡ state1
 unfolding allBelow first ifℕ ifℤ sumℕ sumℤ range some isPlace lossAt storageAt drawdown saturated inUse water crossing flow outflow toward inward lossAfter lossesAfter fromLastColumn moved lengthOut rateOrLengthOut conductanceSum stable unstable totalsPass wellTooDeep tableTooDeep stepTests refusal networkK state0 state1
 first-K = refl
 
-second-K : onward networkK state1 1000 500000 ≡ state2
+second-K : stateAfter networkK state1 1000 500000 ≡ state2
 unfolding allBelow first ifℕ ifℤ sumℕ sumℤ range some isPlace lossAt storageAt drawdown saturated inUse water crossing flow outflow toward inward lossAfter lossesAfter fromLastColumn moved lengthOut rateOrLengthOut conductanceSum stable unstable totalsPass wellTooDeep tableTooDeep stepTests refusal networkK state1 state2
 second-K = refl
 
-third-K : onward networkK state2 1000 500000 ≡ state3
+third-K : stateAfter networkK state2 1000 500000 ≡ state3
 unfolding allBelow first ifℕ ifℤ sumℕ sumℤ range some isPlace lossAt storageAt drawdown saturated inUse water crossing flow outflow toward inward lossAfter lossesAfter fromLastColumn moved lengthOut rateOrLengthOut conductanceSum stable unstable totalsPass wellTooDeep tableTooDeep stepTests refusal networkK state2 state3
 third-K = refl
 
 -- the rows of start
-start-agrees : Agree (startRows (record { outcome = Taken; «record» = startRecord siteK }))
-unfolding Agree startRows outcomeNumber numbersK padded range terms ratio logarithm area horizontal vertical unconfinedStorage confinedStorage isScreened midsection sectionCount sectionOf restOf fromColumns fromWell fromLoss field siteOf slot slots layerSlots isCell hasBelow hasScreen logarithmAt areaAt acrossOf downOf storageOf startRecord
+start-agrees : Agree (startRows (record { outcome = outcomeOf 0; «record» = startRecord siteK }))
+unfolding Agree startRows outcomeNumber outcomeOf numbersK padded range terms ratio logarithm area horizontal vertical unconfinedStorage confinedStorage isScreened midsection sectionCount sectionOf restOf fromColumns fromWell fromLoss field siteOf slot slots layerSlots isCell hasBelow hasScreen logarithmAt areaAt acrossOf downOf storageOf startRecord
 start-agrees = refl
 
 answer-agrees : Agree (startRows (startOf boreK))
@@ -162,7 +162,7 @@ InState s r = Carries siteK s r
 at-start : InState state0 (startOf boreK .«record»)
 at-start = rw (← rest-K, ← network-K, ← scenario-K) (begun boreK (ap (λ a. a .outcome) started))
 
-stepped : {s : State} (s′ : State) {r : Record} → onward networkK s 1000 500000 ≡ s′ → InState s r → InState s′ (stepOf r 1000 500000 .«record»)
+stepped : {s : State} (s′ : State) {r : Record} → stateAfter networkK s 1000 500000 ≡ s′ → InState s r → InState s′ (stepOf r 1000 500000 .«record»)
 stepped s′ e h = rw (← e, ← network-K) (carries-on h 1000 500000)
 
 after-2 : InState state2 (pumped 2 (startOf boreK .«record»))

@@ -9,7 +9,7 @@ use Rattle.words.specs.declared.Quotient.the-variants.{Word, Over}
 use Rattle.words.specs.Fitted.{fitted}
 use Rattle.site.specs.declared.Site.{Site}
 use Rattle.site.specs.Site.{radiiOf}
-use Rattle.site.specs.Laws.{Counts, Numbers, Rises}
+use Rattle.site.specs.Limited.{Counts, Numbers, Rises}
 use Rattle.site.specs.Columns.{logarithmAt, areaAt}
 
 -- what 2, 3 and 4 ask of a scenario's numbers

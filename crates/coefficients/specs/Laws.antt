@@ -23,7 +23,8 @@ use Rattle.network.specs.Network.{Face, Network, atRest}
 use Rattle.network.specs.Grid.{Grid, storedColumns, layersOf, upperLayers, placeCount, place, onePerPlace, acrossFace, downFace, screenFaces, facesOf, networkOf}
 use Rattle.geometry.specs.Geometry.{wellStorage}
 use Rattle.site.specs.declared.Site.{Site}
-use Rattle.site.specs.Laws.{Counts, counts-hold}
+use Rattle.site.specs.Laws.{counts-hold}
+use Rattle.site.specs.Limited.{Counts}
 use Rattle.site.specs.Site.{isScreened, countsHold}
 use Rattle.record.specs.declared.Record.{Record}
 use Rattle.record.specs.Record.{slot, slots, layerSlots, isCell, hasBelow, hasScreen, acrossIn, gridOf, stateOf}

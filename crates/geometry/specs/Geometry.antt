@@ -30,14 +30,14 @@ horizontal b kh Λ = b * kh * 6746518852 / Λ
 unfoldable pub vertical : ℕ → ℕ → ℕ → ℕ → ℕ → ℕ
 vertical a b₁ kv₁ b₂ kv₂ = cond (eqb kv₁ 0 || eqb kv₂ 0) 0 (a * 2 * kv₁ * kv₂ / (b₁ * kv₂ + b₂ * kv₁))
 
--- S of a cell of layer 1 from its specific yield in millionths: equation 10 of document 000
+-- S of a cell of layer 1 from its specific yield in millionths: the storage term of equation 10 of document 000
 unfoldable pub unconfinedStorage : ℕ → ℕ → ℕ
 unconfinedStorage a yield = a * yield
 
--- S of a cell below layer 1 from its specific storage in 10^-9 per m: equation 11 of document 000
+-- S of a cell below layer 1 from its specific storage in 10^-9 per m: the storage term of equation 11 of document 000
 unfoldable pub confinedStorage : ℕ → ℕ → ℕ → ℕ
 confinedStorage a b storage = a * b * storage / 1000000
 
--- S of the well from its free water area W: equation 12 of document 000
+-- S of the well from its free water area W: the storage term of equation 12 of document 000
 unfoldable pub wellStorage : ℕ → ℕ
 wellStorage w = w * 1000000

@@ -31,8 +31,6 @@ use Rattle.validity.specs.Validity.{valid}
 use Rattle.coefficients.specs.Coefficients.{scenarioGrid}
 use Rattle.readings.specs.declared.Place.{Place}
 use Rattle.readings.specs.declared.Place.the-variants.{Well, Cell}
-use Rattle.readings.specs.declared.Amount.{Amount}
-use Rattle.readings.specs.declared.Balance.{Balance}
 use Rattle.readings.specs.declared.Count.{Count}
 use Rattle.readings.specs.Readings.{amountOf, balanceOf, samenessOf, isLayer, isStored, isNamed, numberOf, totalsIn, drawdownOf, budgetOf, setOf, lossOf, leads, faceFrom, waterFrom, flowOf, isDeeperIn, isDeeper, isDeepCodeIn, isDeepCode, deepCountIn, deepCount, deepRefusal, Listed, Deep, sameDepths, sameOf}
 use Rattle.hydraulics.specs.Hydraulics.{inflowOf}
@@ -93,24 +91,24 @@ module _ {scenario : Site} {s : State} {r : Record} (h : Carries scenario s r) w
   unfolding drawdownOf first
   told-depth p = rw (h .valid, same-name p, network-is h, h .state, same-number p)
 
-  pub same-depth : (p : Place) → isNamed G p ≡ true → drawdownOf r p ≡ Amount.Given (network.drawdown N (s .losses) (numberOf G p))
-  unfolding amountOf first
+  pub same-depth : (p : Place) → isNamed G p ≡ true → drawdownOf r p ≡ amountOf 0 (network.drawdown N (s .losses) (numberOf G p))
+  unfolding first
   same-depth p e = told-depth p ∙ rw e
 
   pub told-budget : budgetOf r ≡ balanceOf 0 (totalsIn N s)
   unfolding budgetOf first
   told-budget = rw (h .valid, network-is h, h .state)
 
-  pub same-budget : budgetOf r ≡ Balance.Given (record { pumped = s .pumped; «well_loss» = lossAt (s .losses) 0; «cell_loss» = lossIn N (λ p. ltb 0 p) (s .losses); inflow = s .inflow })
-  unfolding balanceOf totalsIn
+  pub same-budget : budgetOf r ≡ balanceOf 0 (record { pumped = s .pumped; «well_loss» = lossAt (s .losses) 0; «cell_loss» = lossIn N (λ p. ltb 0 p) (s .losses); inflow = s .inflow })
+  unfolding totalsIn
   same-budget = told-budget
 
   pub told-loss : (bytes : List ℕ) → lossOf r bytes ≡ amountOf (first ((not (eqb (length bytes) (placeCount G)), 13) ∷ [])) (lossIn N (setOf bytes) (s .losses))
   unfolding lossOf first
   told-loss bytes = rw (h .valid, same-count, network-is h, h .state)
 
-  pub same-loss : (bytes : List ℕ) → length bytes ≡ placeCount G → lossOf r bytes ≡ Amount.Given (lossIn N (setOf bytes) (s .losses))
-  unfolding amountOf first
+  pub same-loss : (bytes : List ℕ) → length bytes ≡ placeCount G → lossOf r bytes ≡ amountOf 0 (lossIn N (setOf bytes) (s .losses))
+  unfolding first
   same-loss bytes e = told-loss bytes ∙ rw (eq-eqb (length bytes) (placeCount G) e)
 
   -- ---- flow
@@ -276,7 +274,7 @@ cell-place G i (suc j) e =
 module _ (N : Network) (bytes : List ℕ) where
   pub set-inside : Inside N (inSet N bytes)
   unfolding inSet isPlace
-  set-inside p e = ltb-true p (N .places) (and-left (ltb p (N .places)) _ e)
+  set-inside p e = ltb-true p (N .places) (and-left (ltb p (N .places)) (setOf bytes p) e)
 
   pub set-loss : (vs : List ℤ) → lossIn N (setOf bytes) vs ≡ lossIn N (inSet N bytes) vs
   unfolding lossIn inSet isPlace

@@ -18,9 +18,7 @@ use Rattle.validity.specs.Validity.{valid}
 use Rattle.scenario.specs.Scenario.{scenarioOf}
 use Rattle.readings.specs.declared.Place.{Place}
 use Rattle.readings.specs.declared.Place.the-variants.{Cell}
-use Rattle.readings.specs.declared.Amount.{Amount}
-use Rattle.readings.specs.declared.Balance.{Balance}
-use Rattle.readings.specs.Readings.{isNamed, numberOf, drawdownOf, budgetOf, lossOf}
+use Rattle.readings.specs.Readings.{amountOf, balanceOf, isNamed, numberOf, drawdownOf, budgetOf, lossOf}
 use Rattle.ledger.specs.Calls.{Call, Reply, stepped, amount, balance, listed, compared, losses}
 use Rattle.ledger.specs.Ledger.{gridFrom, networkFrom, ledgerOf, outcomesFrom, acceptedOf, pumpedBy, inSet, netInto, greatest}
 use Rattle.ledger.specs.Told.{Told}
@@ -46,7 +44,7 @@ pub record Holds (text : List ℕ) (calls : List Call) (replies : List Reply) (r
   -- 14 does not refuse the record
   pub accepted : valid r ≡ true
   -- the budget reading gives the ledger's pumped total, well's loss, all cells' loss and inflow total
-  pub budget : budgetOf r ≡ Balance.Given (record {
+  pub budget : budgetOf r ≡ balanceOf 0 (record {
     pumped = ledgerOf text calls .pumped;
     «well_loss» = lossAt (ledgerOf text calls .losses) 0;
     «cell_loss» = lossIn (networkFrom text) (λ p. ltb 0 p) (ledgerOf text calls .losses);
@@ -54,12 +52,12 @@ pub record Holds (text : List ℕ) (calls : List Call) (replies : List Reply) (r
   })
   -- the storage loss read for a set is the water pumped, if the well is in it, less the net water in over its border
   pub loss : (bytes : List ℕ) → length bytes ≡ placeCount (gridFrom text)
-      → lossOf r bytes ≡ Amount.Given (
+      → lossOf r bytes ≡ amountOf 0 (
       ifℤ (inSet (networkFrom text) bytes 0) (pos (pumpedBy (acceptedOf text calls)))
       -ℤ netInto (networkFrom text) (inSet (networkFrom text) bytes) (acceptedOf text calls))
   -- the drawdown read at a place is the ledger's, and not below 0
   pub depth : (p : Place) → isNamed (gridFrom text) p ≡ true
-      → drawdownOf r p ≡ Amount.Given (drawdown (networkFrom text) (ledgerOf text calls .losses) (numberOf (gridFrom text) p))
+      → drawdownOf r p ≡ amountOf 0 (drawdown (networkFrom text) (ledgerOf text calls .losses) (numberOf (gridFrom text) p))
   pub natural : (p : Place) → isNamed (gridFrom text) p ≡ true
       → pos 0 ≤ℤ drawdown (networkFrom text) (ledgerOf text calls .losses) (numberOf (gridFrom text) p)
   -- and in the aquifer it is at most the largest that the well has had

@@ -1,8 +1,10 @@
 -- The listing of a scenario text (document 01, the last paragraph of 'A step'), whole and piece by piece.
 use mathlib.Core.Bool.{Bool, true, false}
 use mathlib.Core.List.{List, [], _∷_, _++_, map}
-use Prim.Native.Nat.{ℕ, suc}
+use Prim.Native.Nat.{ℕ, zero, suc}
+use lib.ListN.{take}
 use Rattle.laws.specs.Lists.{range}
+use Rattle.limits.specs.Limits.{entryLimit}
 use Rattle.decimal.specs.Decimal.{digitsOf}
 use Rattle.text.specs.Text.{numbers}
 use Rattle.sections.specs.declared.Entry.{Entry}
@@ -12,6 +14,7 @@ use Rattle.record.specs.declared.Answer.{Answer}
 use Rattle.record.specs.declared.Outcome.{Outcome}
 use Rattle.scenario.specs.declared.Pumping.{Pumping}
 use Rattle.scenario.specs.Scenario.{startOf, entryOf}
+use Rattle.listing_lines.specs.declared.Line.{Line}
 use Rattle.listing_lines.specs.Word.{word}
 use Rattle.listing_lines.specs.Lines.{lineFrom, held}
 use Rattle.listing_runs.specs.Runs.{runOf}
@@ -74,3 +77,24 @@ nextOf text r done =
       | Pumping.Found e ↦ piece (entryLine (suc done) (entryRun r e)) (entryRun r e .«record») false
       | Pumping.Refused k ↦ piece [] r true
     ]
+
+-- ---- what a program prints of them
+
+-- a line's bytes, without the 0 after the last
+abbrev pub bytesOf : Line → List ℕ
+bytesOf x = take (x .length) (x .bytes)
+
+-- the bytes of a piece that follows `done` entries, and of at most n pieces after it, up to one that ends
+unfoldable pub printedFrom : ℕ → List ℕ → ℕ → Piece → List ℕ
+printedFrom zero text done p = bytesOf (p .line)
+printedFrom (suc n) text done p =
+    bytesOf (p .line) ++ elim (p .ended) [ true ↦ [] | false ↦ printedFrom n text (suc done) (nextOf text (p .«record») done) ]
+
+-- the bytes of the first piece, of one for each entry that a text can have, and of one that ends
+unfoldable pub printed : List ℕ → List ℕ
+printed text = printedFrom (suc entryLimit) text 0 (openingOf text)
+
+-- the record that the first k pieces after the opening leave
+unfoldable pub recordAfter : List ℕ → ℕ → Record
+recordAfter text zero = openingOf text .«record»
+recordAfter text (suc k) = nextOf text (recordAfter text k) k .«record»

@@ -1,9 +1,8 @@
 -- What the pieces print, one after the other, is the listing: laws only, nothing to believe.
 --     next-past        no text has an entry after 500
---     printed          the bytes of the first piece and of the next ones, up to the one that ends, as a program prints them
 --     line-short       the line of an entry has at most 114 bytes, if those before it took no longer than they can
---     recordAfter      the record that the first k entries of a text leave; short: so the line after it has at most 114 bytes
---     listing-printed  they are the listing
+--     listing-printed  the bytes of all pieces are the listing
+--     short            the line after the first k entries of a text has at most 114 bytes
 use mathlib.Core.Path.{_≡_, refl, sym, ap, ap₂, _∙_}
 use mathlib.Core.Bool.{true, false}
 use mathlib.Core.List.{List, [], _∷_, _++_, map, append-nil}
@@ -11,7 +10,7 @@ use Prim.Native.Nat.{ℕ, zero, suc, _+_, _-_, _*_, _^_, _≤_}
 use native.Mathlib.Nat.{mul-le-mul-right}
 use native.Mathlib.Omega.{arith}
 use lib.Dec.{lit≤}
-use lib.ListN.{length, take, length-append}
+use lib.ListN.{length, length-append}
 use Rattle.laws.specs.Lists.{every, range}
 use Rattle.laws.specs.Refusal.{first-most}
 use Rattle.decimal.specs.Decimal.{digitsOf}
@@ -22,11 +21,11 @@ use Rattle.sections.specs.declared.Entry.{Entry}
 use Rattle.sections.specs.Sections.{formTests, sectionTests, entriesOf, entryAt}
 use Rattle.record.specs.declared.Record.{Record}
 use Rattle.record.specs.declared.Outcome.{Outcome}
-use Rattle.record.specs.Record.{zeroRecord, outcomeOf, answerOf}
+use Rattle.record.specs.Record.{zeroRecord, answerOf}
+use Rattle.record.specs.Laws.{outcome-of, refusal-of, taken-of}
 use Rattle.scenario.specs.declared.Pumping.{Pumping}
 use Rattle.coefficients.specs.Coefficients.{startRecord}
 use Rattle.scenario.specs.Scenario.{scenarioOf, numberTests, textTests, textRefusal, startOf, entryOf}
-use Rattle.listing_lines.specs.declared.Line.{Line}
 use Rattle.listing_lines.specs.Word.{word}
 use Rattle.listing_lines.specs.Lines.{lineFeed, lineFrom, lineBytes, held}
 use Rattle.listing_lines.specs.Laws.{take-padded}
@@ -34,7 +33,7 @@ use Rattle.listing_runs.specs.Bounded.{mostRefusal, Bounded, run-bounded}
 use Rattle.listing_entry.specs.EntryLine.{entryLine}
 use Rattle.listing_entry.specs.Length.{entry-short}
 use Rattle.listing.specs.declared.Piece.{Piece}
-use Rattle.listing.specs.Listing.{headerLine, scenarioLine, pumpingIn, entryRun, linesOf, listingOf, piece, opened, openingOf, nextOf}
+use Rattle.listing.specs.Listing.{headerLine, scenarioLine, pumpingIn, entryRun, linesOf, listingOf, piece, opened, openingOf, nextOf, bytesOf, printedFrom, printed, recordAfter}
 use Rattle.listing.specs.Laws.{opened-taken, opened-refused, next-found, next-none}
 use Rattle.listing.specs.Entries.{Entered, entry-found, entry-is, entry-past, entries-most, repeats-most, past-most}
 
@@ -66,19 +65,6 @@ module _ (text : List ℕ) (r : Record) (done : ℕ) (time : r .time ≤ done * 
 
 -- ---- the listing
 
-abbrev pub bytesOf : Line → List ℕ
-bytesOf x = take (x .length) (x .bytes)
-
--- the bytes of a piece that follows `done` entries, and of at most n pieces after it, up to one that ends
-unfoldable pub printedFrom : ℕ → List ℕ → ℕ → Piece → List ℕ
-printedFrom zero text done p = bytesOf (p .line)
-printedFrom (suc n) text done p =
-    bytesOf (p .line) ++ elim (p .ended) [ true ↦ [] | false ↦ printedFrom n text (suc done) (nextOf text (p .«record») done) ]
-
--- the first piece, and one for each entry that a text can have
-unfoldable pub printed : List ℕ → List ℕ
-printed text = printedFrom 501 text 0 (openingOf text)
-
 bytes-held : (l : List ℕ) → length l ≤ lineBytes → bytesOf (held l) ≡ l
 unfolding held
 bytes-held l h = take-padded lineBytes l h
@@ -107,16 +93,6 @@ module _ (text : List ℕ) (ok : textRefusal text ≡ 0) where
 -- ---- the first piece
 
 module _ (old new : Record) where
-  taken-accepted : (m : ℕ) → answerOf m old new .outcome ≡ Outcome.Taken → m ≡ 0
-  unfolding answerOf outcomeOf
-  taken-accepted zero e = refl
-  taken-accepted (suc m) e = let z : _≡_ {A = ℕ} 0 1 = cc in absurd (omega arith)
-
-  refused-number : (m k : ℕ) → answerOf m old new .outcome ≡ Outcome.Refused k → m ≡ k
-  unfolding answerOf outcomeOf
-  refused-number zero k e = let z : _≡_ {A = ℕ} 0 1 = cc in absurd (omega arith)
-  refused-number (suc m) k e = cc
-
   answer-time : (m : ℕ) → old .time ≡ 0 → new .time ≡ 0 → answerOf m old new .«record» .time ≡ 0
   unfolding answerOf
   answer-time zero h k = k
@@ -150,7 +126,7 @@ module _ (text : List ℕ) where
   by-outcome : (o : Outcome) → startOf text .outcome ≡ o → printed text ≡ listingOf text
   unfolding printed printedFrom openingOf piece pumpingIn startOf
   by-outcome Outcome.Taken e =
-      let ok = taken-accepted _ _ (textRefusal text) e in
+      let ok = taken-of (textRefusal text) (sym (outcome-of (textRefusal text) zeroRecord _) ∙ e) in
       ap (printedFrom 501 text 0) (opened-taken (startOf text) e)
       ∙ ap₂ _++_
       (bytes-held headerLine header-short)
@@ -159,17 +135,13 @@ module _ (text : List ℕ) where
   by-outcome (Outcome.Refused k) e =
       ap (printedFrom 501 text 0) (opened-refused (startOf text) k e)
       ∙ append-nil _
-      ∙ bytes-held (scenarioLine k) (scenario-short k (omega (arith, text-number, refused-number _ _ (textRefusal text) k e)))
+      ∙ bytes-held (scenarioLine k) (scenario-short k (omega (arith, text-number, refusal-of (textRefusal text) k (sym (outcome-of (textRefusal text) zeroRecord _) ∙ e) .0)))
       ∙ sym (listing-refused k e)
 
   pub listing-printed : printed text ≡ listingOf text
   listing-printed = by-outcome (startOf text .outcome) refl
 
 -- ---- lines in a run from start
-
-unfoldable pub recordAfter : List ℕ → ℕ → Record
-recordAfter text zero = openingOf text .«record»
-recordAfter text (suc k) = nextOf text (recordAfter text k) k .«record»
 
 module _ (text : List ℕ) where
   opening-time : openingOf text .«record» .time ≡ 0

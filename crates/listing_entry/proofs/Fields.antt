@@ -6,7 +6,8 @@ use lib.IntN.{ℤ}
 use Rattle.decimal.specs.Decimal.{digitsOf}
 use Rattle.listing_lines.specs.declared.Line.{Line}
 use Rattle.listing_lines.specs.Lines.{space, lineFeed, lineFrom, figureOf, lineBytes, held, HoldsLine}
-use Rattle.listing_lines.specs.Laws.{appended, held-then, holds}
+use Rattle.listing_lines.specs.Appended.{appended}
+use Rattle.listing_lines.specs.Laws.{held-then, holds}
 use Rattle.readings.specs.declared.Totals.{Totals}
 use Rattle.listing_entry.specs.EntryLine.{figuresLine}
 

@@ -29,7 +29,8 @@ use Rattle.listing_lines.specs.Lines.{lineFrom, figureOf}
 use Rattle.listing_lines.specs.Laws.{figure-natural}
 use Rattle.listing_runs.specs.Bounded.{mostRefusal, Bounded}
 use Rattle.listing_entry.specs.EntryLine.{refusedLine, figuresLine, readingsLine, entryLine}
-use Rattle.listing_entry.specs.Figures.{Figures, figures-read}
+use Rattle.listing_entry.specs.Figures.{Figures}
+use Rattle.listing_entry.specs.Laws.{figures-read}
 
 module _ (n : ℕ) (a : Answer) where
   pub line-taken : a .outcome ≡ Outcome.Taken → entryLine n a ≡ readingsLine n (a .«record» .time) (drawdownOf (a .«record») Place.Well) (budgetOf (a .«record»))
@@ -84,9 +85,13 @@ balance-number zero t k h e = let z : _≡_ {A = ℕ} 0 1 = cc in absurd (omega 
 balance-number (suc m) t k h e = let q : suc m ≡ k = cc in omega arith
 
 module _ (n : ℕ) (h : n ≤ 500) (r : Record) (m : r .time ≤ 500 * (10 ^ 6 * lengthLimit)) where
+  figures-given : (D : ℤ) (t : Totals) → drawdownOf r Place.Well ≡ Amount.Given D → budgetOf r ≡ Balance.Given t → Figures D t
+  unfolding amountOf balanceOf
+  figures-given = figures-read r
+
   by-readings : (d : Amount) (b : Balance) → drawdownOf r Place.Well ≡ d → budgetOf r ≡ b → length (readingsLine n (r .time) d b) ≤ 114
   unfolding readingsLine drawdownOf budgetOf every
-  by-readings (Amount.Given D) (Balance.Given t) e q = figures-short n (r .time) D t h m (figures-read r D t e q)
+  by-readings (Amount.Given D) (Balance.Given t) e q = figures-short n (r .time) D t h m (figures-given D t e q)
   by-readings (Amount.Given D) (Balance.Refused k) e q = refused-short n k h (balance-number _ _ k (first-most mostRefusal ((not (valid r), 14) ∷ []) refl) q)
   by-readings (Amount.Refused k) b e q = refused-short n k h (amount-number _ _ k (first-most mostRefusal ((not (valid r), 14) ∷ (not (isNamed (gridOf r) Place.Well), 12) ∷ []) refl) e)
 

@@ -1,3 +1,4 @@
 pub mod EntryLine
 pub mod Figures
+pub mod Laws
 pub mod Length

@@ -12,6 +12,7 @@ use record::Answer;
 use record::Outcome;
 ghost use mathlib.Core.Path.{_≡_};
 ghost use lib.IntN.{ℤ};
+ghost use Rattle.readings.specs.Readings.{amountOf, balanceOf};
 ghost use Rattle.listing_lines.specs.Lines.{HoldsLine};
 ghost use Rattle.listing_entry.specs.EntryLine.{refusedLine, figuresLine, readingsLine, entryLine};
 ghost use Rattle.listing_entry.specs.Figures.{Figures};
@@ -39,7 +40,7 @@ fn figures_line(number: u64, time: u64, well: i64, totals: Totals) -> Line
 
 // The line from what the readings answer; a refused reading stands in its place.
 fn readings_line(number: u64, time: u64, depth: Amount, balance: Balance) -> Line
-    requires { ⌜ ((D : ℤ) (t : Totals) → depth ≡ Amount.Given D → balance ≡ Balance.Given t → Figures D t) ⌝ }
+    requires { ⌜ ((D : ℤ) (t : Totals) → depth ≡ amountOf 0 D → balance ≡ balanceOf 0 t → Figures D t) ⌝ }
     ensures { λ r. ⌜ HoldsLine (readingsLine number time depth balance) r ⌝ }
 {
     match depth {

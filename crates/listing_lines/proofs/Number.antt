@@ -12,7 +12,8 @@ use Rattle.decimal.specs.Decimal.{digitsOf, digitPlaces, writtenOf}
 use Rattle.decimal.specs.Laws.{few-digits}
 use Rattle.listing_lines.specs.declared.Line.{Line}
 use Rattle.listing_lines.specs.Lines.{fieldBytes}
-use Rattle.listing_lines.specs.Laws.{followed, appended, length-appended, appended-more, take-padded}
+use Rattle.listing_lines.specs.Appended.{followed, appended}
+use Rattle.listing_lines.specs.Laws.{length-appended, appended-more, take-padded}
 
 module _ (n : ℕ) (word : n < 2 ^ 64) (d : Digits) (e : d ≡ writtenOf n) where
   few : length (digitsOf n) ≤ digitPlaces

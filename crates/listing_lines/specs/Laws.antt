@@ -1,11 +1,9 @@
 -- A line in an array that grows at its end: laws only, nothing to believe.
---     followed          a line with one byte more
---     appended          a line with a list of bytes more
---     length-appended   how long it is
+--     length-appended   how long a line is with a list of bytes more
 --     appended-twice    a list and then another; appended-more: and then one byte
 --     held-none         the empty line
---     held-appended     it holds both lists
---     held-then         a line that holds a list, with another list more
+--     held-appended     a line that holds a list, with another list more
+--     held-then         the same of a line that is known by its equation
 --     holds             it holds the list whole, where its length says that there is room; holds-length: its length is within its bytes
 --     take-padded       a padded list up to the list's length is the list
 --     figure-natural    a figure that is not negative has no sign
@@ -14,7 +12,7 @@ use mathlib.Core.List.{List, [], _∷_, _++_, append-assoc, append-nil}
 use Prim.Native.Nat.{ℕ, _+_, _≤_}
 use native.Mathlib.Omega.{arith}
 use lib.IntN.{ℤ, pos, negsuc, natAbs}
-use lib.ListN.{length, take, set, replicate, length-append}
+use lib.ListN.{length, take, replicate, length-append}
 use lib.Seq.{take-take, take-append-seam}
 use lib.Signed.{_≤ℤ_}
 use Rattle.laws.specs.Lists.{padded}
@@ -22,13 +20,7 @@ use Rattle.laws.specs.Padded.{padded-none, padded-more, length-padded}
 use Rattle.decimal.specs.Decimal.{digitsOf}
 use Rattle.listing_lines.specs.declared.Line.{Line}
 use Rattle.listing_lines.specs.Lines.{figureOf, lineBytes, held, HoldsLine}
-
-abbrev pub followed : Line → ℕ → Line
-followed x c = record { bytes = set (x .bytes) (x .length) c; length = x .length + 1 }
-
-unfoldable pub appended : Line → List ℕ → Line
-appended x [] = x
-appended x (c ∷ l) = appended (followed x c) l
+use Rattle.listing_lines.specs.Appended.{followed, appended}
 
 pub length-appended : (x : Line) (l : List ℕ) → appended x l .length ≡ x .length + length l
 unfolding appended

@@ -1,3 +1,4 @@
 pub mod Word
 pub mod Lines
+pub mod Appended
 pub mod Laws

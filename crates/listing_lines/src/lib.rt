@@ -7,8 +7,8 @@ ghost use lib.ListN.{length};
 ghost use lib.Signed.{_≤ℤ_};
 ghost use Rattle.decimal.specs.Decimal.{digitsOf};
 ghost use Rattle.listing_lines.specs.Lines.{figureOf, fieldBytes, lineBytes, held};
-ghost use Rattle.listing_lines.specs.Laws.{appended};
-ghost use Rattle.listing_lines.specs.Laws.{followed as Laws·followed};
+ghost use Rattle.listing_lines.specs.Appended.{appended};
+ghost use Rattle.listing_lines.specs.Appended.{followed as Appended·followed};
 
 // Room for any line: seven figures of at most 20 bytes, each with the space or line feed after it.
 const LINE_BYTES: usize = 147;
@@ -31,7 +31,7 @@ pub fn empty() -> Line
 // The line with one byte more.
 fn followed(line: Line, byte: u8) -> Line
     requires { ⌜ line .length < lineBytes ⌝ }
-    ensures { λ r. ⌜ r ≡ Laws·followed line byte ⌝ }
+    ensures { λ r. ⌜ r ≡ Appended·followed line byte ⌝ }
 {
     let at = line.length;
     let mut bytes = line.bytes;

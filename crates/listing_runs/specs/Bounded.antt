@@ -1,11 +1,10 @@
 -- Bounds on a run: laws only, nothing to believe.
 --     Bounded          a bound on the time of an answer and on the number of its refusal
 --     run-bounded      that of a run: each step is at most 10^9 µs
-use mathlib.Core.Path.{_≡_, refl, _∙_}
+use mathlib.Core.Path.{_≡_, refl}
 use mathlib.Core.Bool.{Bool, true, false, not, cond}
 use mathlib.Core.List.{_∷_}
 use Prim.Native.Nat.{ℕ, zero, suc, _+_, _*_, _≤_}
-use native.Mathlib.Nat.{le-trans}
 use native.Mathlib.Omega.{arith}
 use borrow.Author.Tests.{ltb-false}
 use lib.Dec.{ltb, eqb}
@@ -18,7 +17,7 @@ use Rattle.network.specs.Grid.{networkOf}
 use Rattle.record.specs.declared.Record.{Record}
 use Rattle.record.specs.declared.Answer.{Answer}
 use Rattle.record.specs.declared.Outcome.{Outcome}
-use Rattle.record.specs.Record.{gridOf, stateOf, outcomeOf, answerOf}
+use Rattle.record.specs.Record.{gridOf, stateOf, outcomeOf, answerOf, repeatedOf}
 use Rattle.validity.specs.Validity.{valid}
 use Rattle.step_rules.specs.Step.{withState, stepRefusal, stepOf}
 use Rattle.record.specs.declared.Repeated.{Repeated}
@@ -42,14 +41,15 @@ unfolding answerOf outcomeOf
 answer-bounded b zero old new h o n = record { time = n refl; number = λ k e. let z : _≡_ {A = ℕ} 0 1 = cc in absurd (omega arith) }
 answer-bounded b (suc m) old new h o n = record { time = o; number = λ k e. let q : suc m ≡ k = cc in omega arith }
 
-onward-bounded : (b c taken : ℕ) (a : Answer) (next : Record → Repeated) → b ≤ c → Bounded b a → ((r : Record) → r .time ≤ b → Bounded c (answered (next r))) → Bounded c (answered (onward taken a next))
+repeated-bounded : (b k taken : ℕ) (r : Record) → k ≤ mostRefusal → r .time ≤ b → Bounded b (answered (repeatedOf k r taken))
+unfolding repeatedOf outcomeOf
+repeated-bounded b zero taken r m h = record { time = h; number = λ j e. let z : _≡_ {A = ℕ} 0 1 = cc in absurd (omega arith) }
+repeated-bounded b (suc k) taken r m h = record { time = h; number = λ j e. let q : suc k ≡ j = cc in omega arith }
+
+onward-bounded : (b k taken : ℕ) (r : Record) (next : Repeated) → k ≤ mostRefusal → r .time ≤ b → Bounded b (answered next) → Bounded b (answered (onward k r taken next))
 unfolding onward
-onward-bounded b c taken a next h p q = by-outcome (a .outcome) refl
-  where
-    by-outcome : (o : Outcome) → a .outcome ≡ o
-        → Bounded c (answered (elim o [ Outcome.Taken ↦ next (a .«record») | Outcome.Refused k ↦ record { outcome = Outcome.Refused k; «record» = a .«record»; taken = taken } ]))
-    by-outcome Outcome.Taken e = q (a .«record») (p .time)
-    by-outcome (Outcome.Refused k) e = record { time = le-trans (p .time) h; number = λ j q. p .number j (e ∙ q) }
+onward-bounded b zero taken r next m h p = p
+onward-bounded b (suc k) taken r next m h p = repeated-bounded b (suc k) taken r m h
 
 module _ (rate dt : ℕ) where
   step-number : (r : Record) → stepRefusal r rate dt ≤ mostRefusal
@@ -68,10 +68,10 @@ module _ (rate dt : ℕ) where
 
   steps-bounded : (n taken b : ℕ) (r : Record) → r .time ≤ b → Bounded (b + n * lengthLimit) (answered (stepsOf rate dt taken n r))
   unfolding stepsOf
-  steps-bounded zero taken b r h = record { time = omega arith; number = λ k e. let z : _≡_ {A = ℕ} 0 1 = cc in absurd (omega arith) }
+  steps-bounded zero taken b r h = repeated-bounded (b + 0 * lengthLimit) 0 taken r (omega arith) (omega arith)
   steps-bounded (suc n) taken b r h =
-      onward-bounded (b + lengthLimit) (b + suc n * lengthLimit) taken (stepOf r rate dt) (stepsOf rate dt (suc taken) n) (omega arith) (step-bounded b r h)
-      (λ q k. more (steps-bounded n (suc taken) (b + lengthLimit) q k))
+      onward-bounded (b + suc n * lengthLimit) (stepRefusal r rate dt) taken r (stepsOf rate dt (suc taken) n (stepOf r rate dt .«record»)) (step-number r) (omega arith)
+      (more (steps-bounded n (suc taken) (b + lengthLimit) (stepOf r rate dt .«record») (step-bounded b r h .time)))
     where
       more : {a : Answer} → Bounded (b + lengthLimit + n * lengthLimit) a → Bounded (b + suc n * lengthLimit) a
       more p = record { time = omega (arith, p .time); number = p .number }
@@ -80,6 +80,6 @@ module _ (rate dt : ℕ) where
   unfolding runOf repeatOf
   run-bounded n b r h = by-test (valid r)
     where
-      by-test : (t : Bool) → Bounded (b + n * lengthLimit) (answered (cond t (stepsOf rate dt 0 n r) (record { outcome = Outcome.Refused 14; «record» = r; taken = 0 })))
+      by-test : (t : Bool) → Bounded (b + n * lengthLimit) (answered (cond t (stepsOf rate dt 0 n r) (repeatedOf 14 r 0)))
       by-test true = steps-bounded n 0 b r h
-      by-test false = record { time = omega arith; number = λ k e. let q : 14 ≡ k = cc in omega arith }
+      by-test false = repeated-bounded (b + n * lengthLimit) 14 0 r (omega arith) (omega arith)

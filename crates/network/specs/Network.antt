@@ -1,4 +1,5 @@
 -- A network of places joined by faces, and one explicit step on it: the rules of 'A step' and the refusals 7 to 11 of 01.
+-- Place and face are document 01's own terms ('Geometry to coefficients'): a place is the well or a cell of columns 1 to m−1.
 -- Place 0 is the well. Whatever is not below the number of places is the last column, at constant head: its loss and its drawdown are 0.
 -- Units: losses V, totals and water nl; drawdowns D µm; C 10^-12 m²/s; S nl per m; times µs; rates ml/s; lengths mm.
 use mathlib.Core.Bool.{Bool, true, false, cond, not, _||_}
@@ -11,7 +12,7 @@ use lib.ListN.{getD, replicate}
 use Rattle.laws.specs.Lists.{allBelow, first, ifℕ, ifℤ, sumℕ, sumℤ, range, some}
 use Rattle.limits.specs.Limits.{rateLimit, lengthLimit, totalLimit}
 
--- A face joins two places, or a place and the last column.
+-- A face joins two places, or a place and the last column: document 01's term for a pair that a C rule joins, be C zero or not.
 pub record Face : Type 0 where
   pub one : ℕ
   pub two : ℕ
@@ -101,7 +102,8 @@ lossIn N s vs = sumℤ (range 0 (N .places)) λ p. ifℤ (s p) (lossAt vs p)
 
 -- ---- a step of Δt at a rate
 
--- V of p after it: water leaving a place raises its V, and rate × Δt (ml/s × µs is nl) raises the well's
+-- V of p after it: water leaving a place raises its V, and rate × Δt (ml/s × µs is nl) raises the well's. This is the water balance over a time
+-- step of document 000: equation 10 for a cell of layer 1, 11 for one below it, 12 for the well
 unfoldable pub lossAfter : Network → List ℤ → ℕ → ℕ → ℕ → ℤ
 lossAfter N vs rate dt p = lossAt vs p +ℤ outflow N (flow N vs dt) p +ℤ ifℤ (eqb 0 p) (pos (rate * dt))
 

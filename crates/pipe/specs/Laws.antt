@@ -12,7 +12,8 @@ use lib.ListN.{getD}
 use Rattle.laws.specs.All.{and-right}
 use Rattle.site.specs.declared.Site.{Site}
 use Rattle.site.specs.Site.{isScreened}
-use Rattle.site.specs.Laws.{Counts, counts-hold, Numbers, numbers-hold}
+use Rattle.site.specs.Laws.{counts-hold, numbers-hold}
+use Rattle.site.specs.Limited.{Counts, Numbers}
 use Rattle.hydraulics.specs.Hydraulics.{_⊕_, velocity}
 use Rattle.pipe.specs.declared.Upward.{Upward}
 use Rattle.pipe.specs.declared.Upward.the-variants.{Intake, Layer}

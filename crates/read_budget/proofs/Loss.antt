@@ -24,7 +24,8 @@ use Rattle.network.specs.Network.{Network, State, lossAt, lossIn}
 use Rattle.network.specs.Grid.{place, placeCount, onePerPlace, networkOf}
 use Rattle.network.specs.Kept.{Kept}
 use Rattle.network.specs.laws.Places.{place-cell, by-place}
-use Rattle.site.specs.Laws.{Counts, counts-hold}
+use Rattle.site.specs.Laws.{counts-hold}
+use Rattle.site.specs.Limited.{Counts}
 use Rattle.record.specs.declared.Record.{Record}
 use Rattle.record.specs.Record.{gridOf, stateOf}
 use Rattle.validity.specs.Laws.{Valid, valid-record}

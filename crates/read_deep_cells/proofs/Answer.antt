@@ -16,7 +16,8 @@ use Rattle.laws.specs.Refusal.First.{none, hit, skip}
 use Rattle.record.specs.declared.Record.{Record}
 use Rattle.validity.specs.Validity.{valid}
 use Rattle.validity.specs.Laws.{valid-record}
-use Rattle.slot_places.specs.Drawdowns.{Depths, depth-place, depth-unused}
+use Rattle.slot_places.specs.Depths.{Depths}
+use Rattle.slot_places.specs.Drawdowns.{depth-place, depth-unused}
 use Rattle.readings.specs.declared.Count.{Count}
 use Rattle.readings.specs.Readings.{isDeeper, deepCount, deepRefusal, Deep}
 use Rattle.read_deep_cells.specs.Codes.{codesBelow, deepAt, withCodes}

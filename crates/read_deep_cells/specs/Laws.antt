@@ -25,7 +25,8 @@ use Rattle.laws.specs.RowSums.{sum-parts, sum-more, sum-shift, sum-cut, sum-row
 use Rattle.laws.specs.Lists.{ifℕ, sumℕ, range}
 use Rattle.laws.specs.Sums.{ifℕ-swap, sumℕ-append, sumℕ-ext, sumℕ-zero, sumℕ-pick, range-below}
 use Rattle.network.specs.Grid.{storedColumns, layersOf}
-use Rattle.site.specs.Laws.{Counts, counts-hold}
+use Rattle.site.specs.Laws.{counts-hold}
+use Rattle.site.specs.Limited.{Counts}
 use Rattle.record.specs.declared.Record.{Record}
 use Rattle.record.specs.Record.{gridOf}
 use Rattle.validity.specs.Validity.{valid}

@@ -19,7 +19,8 @@ use Rattle.limits.specs.Limits.{drawdownLimit}
 use Rattle.network.specs.Network.{Network, drawdown, lossAt}
 use Rattle.network.specs.Grid.{place, networkOf, onePerPlace}
 use Rattle.network.specs.laws.Places.{place-below}
-use Rattle.site.specs.Laws.{Counts, counts-hold}
+use Rattle.site.specs.Laws.{counts-hold}
+use Rattle.site.specs.Limited.{Counts}
 use Rattle.record.specs.declared.Record.{Record}
 use Rattle.record.specs.Record.{slot, gridOf, stateOf}
 use Rattle.validity.specs.Laws.{Valid, valid-record, valid-proper}

@@ -33,7 +33,8 @@ use Rattle.network.specs.Kept.{OnTable}
 use Rattle.network.specs.laws.Bounds.{face-fits}
 use Rattle.network.specs.laws.Places.{place-below, place-well}
 use Rattle.site.specs.declared.Site.{Site}
-use Rattle.site.specs.Laws.{Counts, LayerNumbers, numbers-hold}
+use Rattle.site.specs.Laws.{numbers-hold}
+use Rattle.site.specs.Limited.{Counts, LayerNumbers}
 use Rattle.site.specs.Site.{isScreened}
 use Rattle.record.specs.declared.Record.{Record}
 use Rattle.record.specs.Record.{slot, acrossIn, gridOf, stateOf}

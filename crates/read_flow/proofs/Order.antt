@@ -18,7 +18,8 @@ use Rattle.laws.specs.Sums.{or-no}
 use Rattle.limits.specs.Limits.{lengthLimit, totalLimit}
 use Rattle.network.specs.Network.{flow, lengthOut, stable, unstable}
 use Rattle.network.specs.Grid.{networkOf}
-use Rattle.site.specs.Laws.{Counts, counts-hold}
+use Rattle.site.specs.Laws.{counts-hold}
+use Rattle.site.specs.Limited.{Counts}
 use Rattle.record.specs.declared.Record.{Record}
 use Rattle.record.specs.Record.{gridOf, stateOf}
 use Rattle.validity.specs.Validity.{valid}

@@ -20,7 +20,8 @@ use Rattle.limits.specs.Limits.{lengthLimit, drawdownLimit}
 use Rattle.network.specs.Network.{Network, flow, lengthOut, stable, unstable}
 use Rattle.network.specs.Grid.{acrossFace, networkOf}
 use Rattle.site.specs.declared.Site.{Site}
-use Rattle.site.specs.Laws.{Counts, counts-hold}
+use Rattle.site.specs.Laws.{counts-hold}
+use Rattle.site.specs.Limited.{Counts}
 use Rattle.site.specs.Site.{isScreened}
 use Rattle.record.specs.declared.Record.{Record}
 use Rattle.record.specs.Record.{gridOf, stateOf}

@@ -25,11 +25,12 @@ ghost use Rattle.read_head_loss.specs.Slots.{Small, layerFlow, inflowAt,
 
 // What the reading gives for a layer.
 pub struct Losses {
-    pub inflow: f64, // e, into the well
-    pub screen_loss: f64,
-    pub pipe_loss: f64,
+    pub inflow: f64, // e, into the well, l/s
+    pub screen_loss: f64, // m
+    pub pipe_loss: f64, // m
 }
 
+// The answer of a head-loss reading.
 pub enum Loss {
     Given(Losses),
     Refused(u64),

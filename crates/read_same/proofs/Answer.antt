@@ -26,7 +26,8 @@ use Rattle.validity.specs.Validity.{equalℤ, valid}
 use Rattle.validity.specs.Laws.{valid-record}
 use Rattle.step_drawdowns.specs.Drawdowns.{depthOf}
 use Rattle.slot_places.specs.Slots.{depth-well}
-use Rattle.slot_places.specs.Drawdowns.{Depths, depth-place, depth-unused}
+use Rattle.slot_places.specs.Depths.{Depths}
+use Rattle.slot_places.specs.Drawdowns.{depth-place, depth-unused}
 use Rattle.readings.specs.declared.Sameness.{Sameness}
 use Rattle.readings.specs.Readings.{samenessOf, sameDepths, sameOf}
 use Rattle.read_same.specs.Equal.{equalAt}

@@ -40,7 +40,7 @@ unfoldable pub samenessOf : ℕ → Bool → Sameness
 samenessOf zero t = Sameness.Given t
 samenessOf (suc n) t = Sameness.Refused (suc n)
 
--- ---- places
+-- ---- places ('Geometry to coefficients' has the term)
 
 -- layer i and column j are among the grid's; columns 1 to m−1 store water
 unfoldable pub isLayer : Grid → ℕ → Bool
@@ -99,7 +99,8 @@ leads G Well (Cell i j) = isLayer G i && G .screened (i - 1) && eqb j 1
 leads G (Cell i j) Well = false
 leads G (Cell i j) (Cell k l) = isLayer G i && isLayer G k && isStored G j && (eqb k i && eqb l (suc j) || eqb k (suc i) && eqb l j)
 
--- that face
+-- that face. Where a does not lead to b it is the well with column 1, or the cell a with the next column or the layer below; nothing is read of it, since
+-- a pair that is no face is refused with 12
 unfoldable pub faceFrom : Grid → Place → Place → Face
 faceFrom G Well Well = acrossFace G 0 0
 faceFrom G Well (Cell i j) = acrossFace G (i - 1) 0
@@ -144,7 +145,7 @@ deepCountIn G vs D = sumℕ (layersOf G) λ i. sumℕ (storedColumns G) λ j. if
 unfoldable pub deepCount : Record → ℕ → ℕ
 deepCount r D = deepCountIn (gridOf r) (stateOf r .losses) D
 
--- a list with n slots is too short for them
+-- the number of the first refusal, 0 for none: 14, then 13 where a list with n slots is too short for them
 unfoldable pub deepRefusal : Record → ℕ → ℕ → ℕ
 deepRefusal r D n = first ((not (valid r), 14) ∷ (ltb n (deepCount r D), 13) ∷ [])
 

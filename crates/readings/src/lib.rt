@@ -6,9 +6,10 @@ ghost use mathlib.Core.Bool.{true};
 ghost use Prim.Native.Nat.{_-_, _≤_, _<_};
 ghost use Rattle.record.specs.Record.{slot};
 ghost use Rattle.validity.specs.Validity.{valid};
-ghost use Rattle.slot_places.specs.Drawdowns.{Depths};
+ghost use Rattle.slot_places.specs.Depths.{Depths};
 
-// The well, or the cell of a layer and a column, which count from 1 as in document 01. A face's end may be in the last column.
+// Place and face are document 01's own terms ('Geometry to coefficients', 'Readings'). A place is the well, or the cell of a layer and a column, which
+// count from 1 as there. An end of a face is named in the same way, and may be in the last column.
 pub enum Place {
     Well,
     Cell(u64, u64),

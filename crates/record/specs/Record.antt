@@ -1,4 +1,4 @@
--- What a record holds: its slots, the all-zero record, its grid and its state, and the answer that start and step give.
+-- What a record holds: its slots, the all-zero record, its grid and its state, and the answers that start, step and repeat give.
 use mathlib.Core.Bool.{Bool, _&&_}
 use mathlib.Core.List.{List, map}
 use Prim.Native.Nat.{ℕ, zero, suc, _+_, _*_, _-_, _/_, _%_}
@@ -14,6 +14,7 @@ use Rattle.site.specs.Site.{isScreened}
 use Rattle.record.specs.declared.Record.{Record}
 use Rattle.record.specs.declared.Answer.{Answer}
 use Rattle.record.specs.declared.Outcome.{Outcome}
+use Rattle.record.specs.declared.Repeated.{Repeated}
 use Rattle.record.specs.declared.Outcome.the-variants.{Taken, Refused}
 
 -- ---- slots
@@ -111,3 +112,7 @@ outcomeOf (suc n) = Refused (suc n)
 unfoldable pub answerOf : ℕ → Record → Record → Answer
 answerOf zero old new = record { outcome = outcomeOf zero; «record» = new }
 answerOf (suc n) old new = record { outcome = outcomeOf (suc n); «record» = old }
+
+-- many steps: the number of the refusal that ended them, the record after those that were taken, and how many these were
+unfoldable pub repeatedOf : ℕ → Record → ℕ → Repeated
+repeatedOf n r taken = record { outcome = outcomeOf n; «record» = r; taken = taken }

@@ -1,4 +1,4 @@
-// The record of a run, by value, and the answer that start and step give.
+// The record of a run, by value, and the answers that start, step and repeat give.
 use limits::CELL_PLACES;
 use limits::COEFFICIENT_PLACES;
 use limits::COLUMN_PLACES;

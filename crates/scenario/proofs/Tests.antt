@@ -38,7 +38,7 @@ module _ (text : List ℕ) where
 
 -- a refused answer and a taken one, by the number that the tests come to
 pub refused-by : {ts : List (Bool × ℕ)} {n : ℕ} (s : Record) {a : Answer} → First ts (suc n)
-    → a ≡ record { outcome = Refused (suc n); «record» = zeroRecord } → a ≡ answerOf (first ts) zeroRecord s
+    → a ≡ record { outcome = outcomeOf (suc n); «record» = zeroRecord } → a ≡ answerOf (first ts) zeroRecord s
 unfolding answerOf outcomeOf
 refused-by {ts} {n} s f e = rw (sym (first-is f)) e
 
@@ -80,7 +80,7 @@ made-is s e h = ap (λ r. r .«record») e ∙ rw h
 
 -- ---- start
 module _ (text : List ℕ) where
-  pub start-refused : (m : ℕ) → (m ≡ 0 → ⊥) → textRefusal text ≡ m → {a : Answer} → a ≡ record { outcome = Refused m; «record» = zeroRecord } → a ≡ startOf text
+  pub start-refused : (m : ℕ) → (m ≡ 0 → ⊥) → textRefusal text ≡ m → {a : Answer} → a ≡ record { outcome = outcomeOf m; «record» = zeroRecord } → a ≡ startOf text
   unfolding startOf answerOf outcomeOf
   start-refused zero h e p = absurd (h refl)
   start-refused (suc m) h e p = rw e p

@@ -3,20 +3,19 @@ use coefficients::coefficients_of;
 use limits::NUMBER_PLACES;
 use record::Answer;
 use record::Outcome;
-use record::Record;
 use sections::Entry;
 use sections::Layout;
 use site::Site;
 ghost use mathlib.Core.Path.{_≡_};
 ghost use mathlib.Core.Bool.{true};
 ghost use mathlib.Core.List.{List};
-ghost use Prim.Native.Nat.{ℕ, _-_};
+ghost use Prim.Native.Nat.{ℕ, _-_, _<_};
 ghost use Rattle.laws.specs.Lists.{first};
 ghost use Rattle.text.specs.Text.{numbers};
 ghost use Rattle.site.specs.Site.{countsHold};
 ghost use Rattle.sections.specs.Reading.{Reads};
 ghost use Rattle.sections.specs.Sections.{entryAt};
-ghost use Rattle.record.specs.Record.{answerOf, zeroRecord};
+ghost use Rattle.record.specs.Record.{zeroRecord, outcomeOf, answerOf};
 ghost use Rattle.coefficients.specs.Coefficients.{startRecord};
 ghost use Rattle.scenario.specs.Scenario.{numberTests, textRefusal, startOf, pumpingOf, entryTests, entryOf};
 
@@ -28,7 +27,8 @@ pub enum Pumping {
 
 // A refused text: its number and the all-zero record.
 fn refused(number: u64) -> Answer
-    ensures { λ r. ⌜ r ≡ record { outcome = Outcome.Refused number; «record» = zeroRecord } ⌝ }
+    requires { ⌜ 0 < number ⌝ }
+    ensures { λ r. ⌜ r ≡ record { outcome = outcomeOf number; «record» = zeroRecord } ⌝ }
 {
     Answer {
         outcome: Outcome::Refused(number),
@@ -72,7 +72,8 @@ struct Judged {
 }
 
 fn unread(number: u64) -> Judged
-    ensures { λ r. ⌜ r .answer ≡ record { outcome = Outcome.Refused number; «record» = zeroRecord } ⌝ }
+    requires { ⌜ 0 < number ⌝ }
+    ensures { λ r. ⌜ r .answer ≡ record { outcome = outcomeOf number; «record» = zeroRecord } ⌝ }
 {
     Judged {
         answer: refused(number),

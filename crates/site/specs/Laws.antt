@@ -1,11 +1,10 @@
 -- What the tests of a scenario's numbers say where they hold, for the proofs of this and other crates: laws only, nothing to believe.
 --     within             Within: a number between two limits
---     counts-hold        Counts: how many layers, columns and coefficients there are
---     numbers-hold       Numbers: the limits of each layer (LayerNumbers), radius, coefficient and of the well (WellNumbers)
---     radii-hold         Rises: what rules 3 and 4 say of the radii on both sides of each face between columns
+--     counts-hold        how many layers, columns and coefficients there are
+--     numbers-hold       the limits of each layer, radius, coefficient and of the well
+--     radii-hold         what rules 3 and 4 say of the radii on both sides of each face between columns
 use mathlib.Core.Path.{_≡_}
 use mathlib.Core.Bool.{true, _&&_}
-use mathlib.Core.List.{List}
 use Prim.Native.Nat.{ℕ, zero, suc, _*_, _≤_, _<_}
 use native.Mathlib.Omega.{arith}
 use borrow.Author.Tests.{leb-true, ltb-true}
@@ -14,8 +13,9 @@ use lib.ListN.{getD}
 use Rattle.laws.specs.All.{all-at, and-left, and-right}
 use Rattle.laws.specs.Rows.{three-hold, four-hold}
 use Rattle.site.specs.declared.Site.{Site}
-use Rattle.limits.specs.Limits.{between, layerPlaces, columnPlaces, coefficientPlaces, midsectionFactor, layerCount, columnCount, coefficientCount, thicknessLimits, screenedLimits, conductivityLimits, wellRadiusLimits, waterAreaLimits, intakeLimits, frictionLimits}
+use Rattle.limits.specs.Limits.{between, layerPlaces, columnPlaces, midsectionFactor, layerCount, columnCount, coefficientCount, thicknessLimits, screenedLimits, conductivityLimits, wellRadiusLimits, waterAreaLimits, intakeLimits, frictionLimits}
 use Rattle.site.specs.Site.{radiiOf, midsection, countsHold, storageHolds, layerHolds, layerAt, layersHold, columnsHold, wellHolds, screenLossHolds, numbersHold, columnRises, radiiHold}
+use Rattle.site.specs.Limited.{Counts, LayerNumbers, WellNumbers, Numbers, Rises}
 
 -- ---- a number within its limits
 pub record Within (lo hi n : ℕ) : Type 0 where
@@ -29,13 +29,6 @@ within lo hi n e = record {
 }
 
 -- ---- counts
-pub record Counts (s : Site) : Type 0 where
-  pub layers-least : 2 ≤ s .layers
-  pub layers-most : s .layers ≤ layerPlaces
-  pub columns-least : 2 ≤ s .columns
-  pub columns-most : s .columns ≤ columnPlaces
-  pub coefficients-most : s .«loss_count» ≤ coefficientPlaces
-
 pub counts-hold : (s : Site) → countsHold s ≡ true → Counts s
 unfolding countsHold
 counts-hold s e =
@@ -51,32 +44,6 @@ counts-hold s e =
     }
 
 -- ---- limits
--- layer i: b, screen, Kh, Kv, storage
-pub record LayerNumbers (s : Site) (i : ℕ) : Type 0 where
-  pub thickness-least : 1 ≤ getD (s .thickness) i 0
-  pub thickness-most : getD (s .thickness) i 0 ≤ 1000000
-  pub screened-most : getD (s .screened) i 0 ≤ 1
-  pub kh-most : getD (s .kh) i 0 ≤ 100000000
-  pub kv-most : getD (s .kv) i 0 ≤ 100000000
-  pub storage-least : 1 ≤ getD (s .storage) i 0
-  pub storage-most : getD (s .storage) i 0 ≤ 100000000
-  pub storage-below-most : 1 ≤ i → getD (s .storage) i 0 ≤ 1000000
-
-pub record WellNumbers (s : Site) : Type 0 where
-  pub radius-least : 10 ≤ s .«well_radius»
-  pub radius-most : s .«well_radius» ≤ 5000
-  pub area-least : 1 ≤ s .«water_area»
-  pub area-most : s .«water_area» ≤ 1000000000
-  pub intake-least : 1 ≤ s .intake
-  pub intake-most : s .intake ≤ 1000000
-  pub friction-most : s .friction ≤ 1000000
-
-pub record Numbers (s : Site) : Type 0 where
-  pub layer : (i : ℕ) → i < s .layers → LayerNumbers s i
-  pub column : (j : ℕ) → j < s .columns → getD (s .radii) j 0 ≤ 2000000
-  pub well : WellNumbers s
-  pub coefficient : (k : ℕ) → k < s .«loss_count» → getD (s .«loss_coefficients») k 0 ≤ 1000000000000
-
 record Storage (i x : ℕ) : Type 0 where
   least : 1 ≤ x
   most : x ≤ 100000000
@@ -137,16 +104,6 @@ module _ (s : Site) where
         well = well-numbers (tests .2);
         coefficient = λ k h. leb-true _ _ (all-at _ (s .«loss_count») k (tests .3) h);
       }
-
--- ---- rule 4, at columns j and j + 1 (column 0 is the well): radii R_j and R_(j+1), twice the midsection radii u_j and u_(j+1)
-pub record Rises (rs : List ℕ) (j : ℕ) : Type 0 where
-  pub radius-least : 10 ≤ getD rs j 0
-  pub radius-rises : getD rs j 0 < getD rs (suc j) 0
-  pub radius-most : getD rs (suc j) 0 ≤ 2000000
-  pub midsection-least : 20 ≤ midsection rs j
-  pub midsection-rises : midsection rs j < midsection rs (suc j)
-  pub midsection-near : midsection rs (suc j) ≤ midsectionFactor * midsection rs j
-  pub midsection-most : midsection rs (suc j) ≤ 4000000
 
 module _ (s : Site) (numbers : numbersHold s ≡ true) (radii : radiiHold s ≡ true) where
   rises : (j : ℕ) → j < s .columns → columnRises (radiiOf s) j ≡ true

@@ -11,7 +11,7 @@ use lib.IntN.{pos, natAbs}
 use lib.ListN.{getD, replicate, length-replicate, List·getD-map}
 use lib.Signed.{_≤ℤ_}
 use Rattle.limits.specs.Limits.{drawdownLimit}
-use Rattle.laws.specs.Fill.{fill, getD-fill, getD-same}
+use Rattle.laws.specs.Fill.{getD-fill, getD-same}
 use Rattle.laws.specs.Span.{spans, spans-fill}
 use Rattle.network.specs.Network.{lossAt, drawdown}
 use Rattle.network.specs.Grid.{place, onePerPlace, networkOf}
@@ -19,11 +19,8 @@ use Rattle.record.specs.declared.Record.{Record}
 use Rattle.record.specs.Record.{gridOf, stateOf}
 use Rattle.validity.specs.Laws.{Valid, valid-proper}
 use Rattle.step_drawdowns.specs.Drawdowns.{depthOf, depthAt}
+use Rattle.slot_places.specs.Depths.{Depths}
 use Rattle.slot_places.specs.Slots.{counted, depth-past, depth-column, depth-well, loss-natural, storage-small, depth-small}
-
--- D of each cell in its slot, and 0 in the other slots
-abbrev pub Depths : Record → List ℕ → Type 0
-Depths r ds = map pos ds ≡ fill (50 * r .site .layers) (depthAt (r .losses) (r .storages)) (replicate 1000 (pos 0))
 
 module _ (r : Record) (v : Valid r) where
   few : 50 * r .site .layers ≤ 1000

@@ -1,3 +1,4 @@
 pub mod Slots
+pub mod Depths
 pub mod Drawdowns
 pub mod Screen

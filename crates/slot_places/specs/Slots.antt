@@ -25,7 +25,8 @@ use Rattle.network.specs.Network.{Network, lossAt, storageAt, drawdown, tableTo
 use Rattle.network.specs.Grid.{place, placeCount, storedColumns, onePerPlace, networkOf}
 use Rattle.network.specs.laws.Places.{place-last, place-below, getD-one}
 use Rattle.geometry.specs.Geometry.{wellStorage}
-use Rattle.site.specs.Laws.{Counts, counts-hold, numbers-hold}
+use Rattle.site.specs.Laws.{counts-hold, numbers-hold}
+use Rattle.site.specs.Limited.{Counts}
 use Rattle.site.specs.Site.{isScreened, screenLayer, screenTop, screenHolds}
 use Rattle.record.specs.declared.Record.{Record}
 use Rattle.record.specs.Record.{slot, isCell, hasBelow, gridOf, stateOf}

@@ -6,7 +6,7 @@
 use mathlib.Core.Path.{_≡_, refl, sym, ap, _∙_}
 use mathlib.Core.Bool.{Bool, true, cond, not, _&&_, or-true}
 use mathlib.Core.List.{List}
-use Prim.Native.Nat.{ℕ, zero, suc, _+_, _≤_, _<_}
+use Prim.Native.Nat.{ℕ, suc, _+_, _≤_, _<_}
 use native.Mathlib.Omega.{arith}
 use borrow.Author.Tests.{eq-eqb, not-false}
 use lib.Dec.{eqb}
@@ -32,9 +32,8 @@ use Rattle.sections.specs.Laws.{Form, form-numbered, form-passed, length-sectio
 use Rattle.sections.specs.Laws as sections
 use Rattle.sections.specs.Sections.{layerWidth, formTests, siteOf, repeatsHold, sectionCount, sectionOf, field}
 use Rattle.record.specs.declared.Record.{Record}
-use Rattle.record.specs.declared.Outcome.the-variants.{Taken}
 use Rattle.record.specs.Laws.{outcome-of, taken-of}
-use Rattle.record.specs.Record.{isCell, gridOf, stateOf, zeroRecord, answerOf}
+use Rattle.record.specs.Record.{isCell, gridOf, stateOf, zeroRecord, outcomeOf, answerOf}
 use Rattle.coefficient_slots.specs.Slots.{usedSlot, coefficientsHold}
 use Rattle.coefficient_slots.specs.Laws.{Coefficients, coefficients-hold}
 use Rattle.validity_numbers.specs.Numbers.{zeroFrom, siteUnused}
@@ -158,9 +157,9 @@ module _ {scenario : Site} {s : State} {r : Record} (h : Carries scenario s r) w
   pub down-is : (i j : ℕ) → suc i < scenario .layers → 1 ≤ j → j < scenario .columns → gridOf r .down i j ≡ downOf scenario i j
   down-is i j k one m = ap (λ g. g .down i j) slotted-grid ∙ down-at _ scenario (site.counts-hold scenario counted) i j k one m
 
-pub begun : (text : List ℕ) → startOf text .outcome ≡ Taken
+pub begun : (text : List ℕ) → startOf text .outcome ≡ outcomeOf 0
     → Carries (scenarioOf text) (atRest (networkOf (scenarioGrid (scenarioOf text)))) (startOf text .«record»)
-unfolding startOf answerOf startRecord scenarioOf
+unfolding startOf answerOf outcomeOf startRecord scenarioOf
 begun text e =
     let taken = taken-of (textRefusal text) (sym (outcome-of (textRefusal text) zeroRecord (startRecord (scenarioOf text))) ∙ e) in
     let p = text-passed text taken in

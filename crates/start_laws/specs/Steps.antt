@@ -1,7 +1,7 @@
 -- A step from a record that carries a scenario in a state: laws only, nothing to believe.
 --     refusal-is     it is refused as the scenario's network in that state refuses it
 --     outcome-is     so its outcome has that number
---     onward         the state after it, where a refused step changes nothing
+--     stateAfter     the state after it, where a refused step changes nothing
 --     carries-on     the record that it gives carries the scenario in that state
 use mathlib.Core.Path.{_≡_, refl, sym, ap, ap₂, subst, _∙_}
 use mathlib.Core.Bool.{cond}
@@ -21,16 +21,11 @@ use Rattle.record.specs.Record.{gridOf, stateOf, outcomeOf, answerOf}
 use Rattle.validity.specs.Laws.{valid-record}
 use Rattle.coefficients.specs.Coefficients.{scenarioGrid}
 use Rattle.step_rules.specs.Step.{withState, stepRefusal, stepOf}
-use Rattle.step_rules.specs.Laws.{same-grid, same-state, step-valid}
+use Rattle.step_rules.specs.Laws.{step-outcome, same-grid, same-state, step-valid}
 use Rattle.start_laws.specs.Laws.{Carries, network-is}
 
-abbrev pub onward : Network → State → ℕ → ℕ → State
-onward N s rate dt = cond (eqb (refusal N s rate dt) 0) (moved N s rate dt) s
-
-outcome-of : (n : ℕ) (old new : Record) → answerOf n old new .outcome ≡ outcomeOf n
-unfolding answerOf
-outcome-of zero old new = refl
-outcome-of (suc n) old new = refl
+abbrev pub stateAfter : Network → State → ℕ → ℕ → State
+stateAfter N s rate dt = cond (eqb (refusal N s rate dt) 0) (moved N s rate dt) s
 
 module _ {scenario : Site} {s : State} {r : Record} (h : Carries scenario s r) (rate dt : ℕ) where
   abbrev N : Network
@@ -44,8 +39,7 @@ module _ {scenario : Site} {s : State} {r : Record} (h : Carries scenario s r) (
   refusal-is = rw (h .valid, network-is h, h .state)
 
   pub outcome-is : stepOf r rate dt .outcome ≡ outcomeOf (refusal N s rate dt)
-  unfolding stepOf
-  outcome-is = outcome-of (stepRefusal r rate dt) r _ ∙ ap outcomeOf refusal-is
+  outcome-is = step-outcome r rate dt ∙ ap outcomeOf refusal-is
 
   -- a step that is taken
   carries-moved : refusal N s rate dt ≡ 0 → Carries scenario (moved N s rate dt) (withState r next)
@@ -60,12 +54,12 @@ module _ {scenario : Site} {s : State} {r : Record} (h : Carries scenario s r) (
       listed : length (next .losses) ≡ placeCount (gridOf r)
       listed = length-map (range 0 (placeCount (gridOf r))) (lossAfter (networkOf (gridOf r)) (stateOf r .losses) rate dt) ∙ length-range 0 (placeCount (gridOf r))
 
-  pub carries-on : Carries scenario (onward N s rate dt) (stepOf r rate dt .«record»)
+  pub carries-on : Carries scenario (stateAfter N s rate dt) (stepOf r rate dt .«record»)
   unfolding stepOf answerOf
   carries-on = subst After (sym refusal-is) (by-number (refusal N s rate dt) refl)
     where
       After : ℕ → Type 0
-      After n = Carries scenario (onward N s rate dt) (answerOf n r (withState r next) .«record»)
+      After n = Carries scenario (stateAfter N s rate dt) (answerOf n r (withState r next) .«record»)
 
       by-number : (n : ℕ) → refusal N s rate dt ≡ n → After n
       by-number zero e = rw (eq-eqb (refusal N s rate dt) 0 e) (carries-moved e)

@@ -4,13 +4,13 @@ use Prim.Native.Nat.{ℕ}
 use Rattle.validity.specs.Validity.{valid}
 use Rattle.record.specs.declared.Record.{Record}
 use Rattle.record.specs.declared.Answer.{Answer}
-use Rattle.record.specs.declared.Outcome.{Outcome}
 use Rattle.record.specs.declared.Repeated.{Repeated}
+use Rattle.record.specs.Record.{repeatedOf}
 use Rattle.step_rules.specs.Steps.{stepsOf}
 
--- 14 is judged first, also where no step is asked
+-- what `repeat` answers for n steps of dt µs at a rate in ml/s: 14 is judged first, also where no step is asked
 unfoldable pub repeatOf : Record → ℕ → ℕ → ℕ → Repeated
-repeatOf r rate dt n = cond (valid r) (stepsOf rate dt 0 n r) (record { outcome = Outcome.Refused 14; «record» = r; taken = 0 })
+repeatOf r rate dt n = cond (valid r) (stepsOf rate dt 0 n r) (repeatedOf 14 r 0)
 
 -- what became of many steps, without their number
 abbrev pub answered : Repeated → Answer

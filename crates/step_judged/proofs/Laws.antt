@@ -27,7 +27,8 @@ use Rattle.laws.specs.Refusal.First.{hit}
 use Rattle.laws.specs.Signed.{small-fits, abs-add, room-fits, room-sum}
 use Rattle.laws.specs.Lists.{ifℤ, sumℤ, range, first}
 use Rattle.limits.specs.Limits.{rateLimit, lengthLimit, totalLimit}
-use Rattle.record.specs.declared.Outcome.the-variants.{Taken, Refused}
+use Rattle.record.specs.declared.Outcome.the-variants.{Taken}
+use Rattle.record.specs.Record.{outcomeOf}
 use Rattle.step_sweep.specs.declared.Terms.{Terms}
 use Rattle.step_sweep.specs.Worked.{Lent, lent, slotCount, wellFlow, toLast, slotAfter, wellAfter, inflowAfter, lossesOf, Unused}
 use Rattle.step_judged.specs.declared.Advanced.{Advanced}
@@ -68,7 +69,7 @@ module _ (a : Lent) (p volume t : ℕ) where
   -- the course and the losses of a step refused with this number
   abbrev Halted : ℕ → Type 0
   Halted n =
-      (_≡_ {A = Advanced} (record { outcome = Refused n; course = record { «well_loss» = a .wellLoss; pumped = volume; inflow = a .inflow; time = t } }) (advancedOf a p volume t))
+      (_≡_ {A = Advanced} (record { outcome = outcomeOf n; course = record { «well_loss» = a .wellLoss; pumped = volume; inflow = a .inflow; time = t } }) (advancedOf a p volume t))
       × (a .losses ≡ keptOf a p volume t)
 
   pub halted-is : (n : ℕ) → 0 < n → n ≡ halts a p volume t → Halted n
@@ -84,7 +85,7 @@ module _ (a : Lent) (p volume t : ℕ) where
       → {well inflow : ℤ} → well ≡ wellAfter a → inflow ≡ inflowAfter a → {ls : List ℤ} → ls ≡ lossesOf a
       → (_≡_ {A = Advanced} (record { outcome = Taken; course = record { «well_loss» = well; pumped = volume + a .rate * a .dt; inflow = inflow; time = t + a .dt } }) (advancedOf a p volume t))
       × (ls ≡ keptOf a p volume t)
-  unfolding advancedOf keptOf courseAfter lossesKept
+  unfolding advancedOf keptOf courseAfter lossesKept outcomeOf
   taken e w i l = (rw (← e, w, i), rw (← e, l))
 
 -- where 9 lets the step pass, the number that halts it is the first of 10 and 11

@@ -8,7 +8,7 @@ use lib.IntN.{ℤ, pos}
 use lib.Signed.{_≤ℤ_}
 use Rattle.laws.specs.Lists.{first}
 use Rattle.limits.specs.Limits.{totalLimit, drawdownLimit}
-use Rattle.record.specs.declared.Outcome.{Outcome}
+use Rattle.record.specs.Record.{outcomeOf}
 use Rattle.validity_drawdowns.specs.Drawdowns.{deeper}
 use Rattle.step_conditions.specs.Conditions.{totalsFull, Filled, tableWithin}
 use Rattle.step_sweep.specs.declared.Terms.{Terms}
@@ -38,11 +38,11 @@ module _ (a : Lent) (intake pumped time : ℕ) where
   -- what becomes of a step that this number forbids
   unfoldable pub courseAfter : ℕ → Advanced
   courseAfter zero = record {
-    outcome = Outcome.Taken;
+    outcome = outcomeOf zero;
     course = record { «well_loss» = wellAfter a; pumped = pumped + a .rate * a .dt; inflow = inflowAfter a; time = time + a .dt };
   }
   courseAfter (suc n) = record {
-    outcome = Outcome.Refused (suc n);
+    outcome = outcomeOf (suc n);
     course = record { «well_loss» = a .wellLoss; pumped = pumped; inflow = a .inflow; time = time };
   }
 

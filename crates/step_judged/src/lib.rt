@@ -14,7 +14,7 @@ ghost use Rattle.limits.specs.Limits.{drawdownLimit};
 ghost use Rattle.step_conditions.specs.Conditions.{Filled};
 ghost use Rattle.step_drawdowns.specs.Drawdowns.{Stands, Multiplied};
 ghost use Rattle.step_sweep.specs.Worked.{lent, Scratch};
-ghost use Rattle.record.specs.declared.Outcome.the-variants.{Refused};
+ghost use Rattle.record.specs.Record.{outcomeOf};
 ghost use Rattle.step_judged.specs.Course.{tooDeep, Advancing, Advances};
 
 // Where a run has come to, beside the losses of its cells.
@@ -33,7 +33,8 @@ pub struct Advanced {
 
 // A step refused with this number: the course as it was before it.
 fn halted(number: u64, course: Course) -> Advanced
-    ensures { λ r. ⌜ r ≡ (record { outcome = Refused number; course = course }) ⌝ }
+    requires { ⌜ 0 < number ⌝ }
+    ensures { λ r. ⌜ r ≡ (record { outcome = outcomeOf number; course = course }) ⌝ }
 {
     Advanced {
         outcome: Outcome::Refused(number),

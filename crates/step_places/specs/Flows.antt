@@ -21,28 +21,11 @@ use Rattle.record.specs.Record.{slot, acrossIn, gridOf, stateOf}
 use Rattle.validity.specs.Laws.{Valid}
 use Rattle.step_flows.specs.Flows.{reducedC}
 use Rattle.step_losses.specs.Losses.{left, upper}
-use Rattle.step_sweep.specs.declared.Terms.{Terms}
-use Rattle.step_sweep.specs.Worked.{Lent, lent, depth, wellDepth, conductance, right, lower, wellFlow, waterOf, toLast}
+use Rattle.step_sweep.specs.Worked.{Lent, depth, wellDepth, conductance, right, lower, wellFlow, waterOf, toLast}
 use Rattle.slot_places.specs.Screen.{water-none, screen-water}
 use Rattle.slot_places.specs.Slots.{slot-at, counted, across-past, down-past, depth-column}
 use Rattle.step_sweep.specs.Laws.{reduced-none}
-
--- the terms of a run of a record, with this multiplier for the well
-abbrev pub termsOf : Record → ℕ → ℕ → ℕ → Terms
-termsOf r multiplier rate dt = record {
-  layers = r .site .layers;
-  columns = r .site .columns;
-  thickness = getD (r .site .thickness) 0 0;
-  intake = r .site .intake;
-  «well_storage» = r .«well_storage»;
-  «well_multiplier» = multiplier;
-  rate = rate;
-  dt = dt;
-}
-
--- what `work_step` is lent of a record
-abbrev pub lentOf : Record → ℕ → ℕ → Lent
-lentOf r rate dt = lent (termsOf r 0 rate dt) (r .«well_loss») (r .inflow) (r .screen) (r .horizontal) (r .vertical) (r .storages) (r .losses)
+use Rattle.step_places.specs.Terms.{lentOf}
 
 cond-same : {A : Type 0} (t : Bool) (x : A) → cond t x x ≡ x
 cond-same true x = refl

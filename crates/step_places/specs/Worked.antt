@@ -29,7 +29,8 @@ use Rattle.network.specs.laws.Places.{place-below, place-cell}
 use Rattle.network.specs.laws.Proper.{across-mem, down-mem}
 use Rattle.network.specs.laws.Room.{cell-room, well-room, last-room}
 use Rattle.geometry.specs.Geometry.{wellStorage}
-use Rattle.site.specs.Laws.{LayerNumbers, numbers-hold}
+use Rattle.site.specs.Laws.{numbers-hold}
+use Rattle.site.specs.Limited.{LayerNumbers}
 use Rattle.site.specs.Site.{isScreened}
 use Rattle.record.specs.declared.Record.{Record}
 use Rattle.record.specs.Record.{slots, isCell, gridOf, stateOf}
@@ -39,7 +40,8 @@ use Rattle.step_sweep.specs.Worked.{Lent, depth, wellDepth, right, lower, wellF
 use Rattle.slot_places.specs.Screen.{screen-small}
 use Rattle.slot_places.specs.Slots.{counted, by-slot, none-lost, depth-past, loss-cell, loss-natural, storage-small, well-storage-small, depth-small, table-shallow}
 use Rattle.slot_places.specs.Drawdowns.{well-ask}
-use Rattle.step_places.specs.Flows.{lentOf, right-past, lower-past, right-cell, lower-cell, from-well, left-cell, upper-cell, to-last}
+use Rattle.step_places.specs.Terms.{lentOf}
+use Rattle.step_places.specs.Flows.{right-past, lower-past, right-cell, lower-cell, from-well, left-cell, upper-cell, to-last}
 
 small-if : (t : Bool) (z : ℤ) {n : ℕ} → (t ≡ true → natAbs z ≤ n) → natAbs (ifℤ t z) ≤ n
 unfolding ifℤ

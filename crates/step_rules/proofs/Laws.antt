@@ -26,7 +26,8 @@ use Rattle.network.specs.Network.{Network, State, lossAt, storageAt, lossesAfte
 use Rattle.network.specs.Grid.{place, onePerPlace, networkOf}
 use Rattle.network.specs.laws.Bounds.{losses-after}
 use Rattle.network.specs.laws.Places.{place-below}
-use Rattle.site.specs.Laws.{Counts, counts-hold, numbers-hold}
+use Rattle.site.specs.Laws.{counts-hold, numbers-hold}
+use Rattle.site.specs.Limited.{Counts}
 use Rattle.record.specs.declared.Record.{Record}
 use Rattle.record.specs.declared.Answer.{Answer}
 use Rattle.record.specs.declared.Outcome.the-variants.{Refused}
@@ -41,7 +42,7 @@ use Rattle.step_sweep.specs.Worked.{Lent, lent, lossesOf, Scratch}
 use Rattle.step_judged.specs.declared.Advanced.{Advanced}
 use Rattle.step_judged.specs.Course.{wellDeep, tableDeep, halts, courseAfter, lossesKept, advancedOf, keptOf, Advancing, Advances}
 use Rattle.step_judged.proofs.Laws as course
-use Rattle.step_places.specs.Flows.{termsOf, lentOf}
+use Rattle.step_places.specs.Terms.{termsOf, lentOf}
 use Rattle.step_places.specs.Worked.{workable, worked-well, worked-inflow, worked-losses, worked-cell}
 use Rattle.step_rules.specs.Step.{withState, stepRefusal, stepOf}
 use Rattle.step_rules.specs.Ready.{Ready, withCourse}

@@ -1,4 +1,5 @@
--- A step taken on a valid record leaves a valid one: laws only, nothing to believe.
+-- What a step gives, and that one taken on a valid record leaves a valid one: laws only, nothing to believe.
+--     step-outcome     what became of a step, by its number; step-kept: a refused one gives the record handed in
 --     same-grid        a record with another state has the same grid, and so the same network (same-network)
 --     same-state       and that state, where the state has one loss for each place
 --     step-valid       so 14 does not refuse the record that a step taken gives
@@ -18,14 +19,25 @@ use Rattle.network.specs.Grid.{Grid, place, placeCount, networkOf, onePerPlace}
 use Rattle.network.specs.Kept.{Kept}
 use Rattle.network.specs.laws.Places.{one-per-place}
 use Rattle.network.specs.laws.Preserve.{kept-moved}
-use Rattle.site.specs.Laws.{Counts, counts-hold}
+use Rattle.site.specs.Laws.{counts-hold}
+use Rattle.site.specs.Limited.{Counts}
 use Rattle.site.specs.Site.{isScreened}
 use Rattle.record.specs.declared.Record.{Record}
-use Rattle.record.specs.Record.{slot, slots, isCell, acrossIn, gridOf, stateOf}
+use Rattle.record.specs.Record.{slot, slots, isCell, acrossIn, gridOf, stateOf, outcomeOf}
+use Rattle.record.specs.Laws.{outcome-of, kept-of}
 use Rattle.coefficient_slots.specs.Slots.{usedSlot, coefficientsUnused}
 use Rattle.validity.specs.Validity.{isZeroℤ, lossesUnused, valid}
 use Rattle.validity.specs.Laws.{Valid, valid-record, record-valid, valid-proper}
-use Rattle.step_rules.specs.Step.{withState, stepRefusal}
+use Rattle.step_rules.specs.Step.{withState, stepRefusal, stepOf}
+
+module _ (r : Record) (rate dt : ℕ) where
+  pub step-outcome : stepOf r rate dt .outcome ≡ outcomeOf (stepRefusal r rate dt)
+  unfolding stepOf
+  step-outcome = outcome-of (stepRefusal r rate dt) r _
+
+  pub step-kept : (stepRefusal r rate dt ≡ 0 → ⊥) → stepOf r rate dt .«record» ≡ r
+  unfolding stepOf
+  step-kept z = kept-of (stepRefusal r rate dt) r _ z
 
 module _ (r : Record) (s : State) where
   same-across : acrossIn (withState r s) ≡ acrossIn r

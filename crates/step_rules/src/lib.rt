@@ -1,1 +1,1 @@
-// One step on a record: its definition and laws only, in specs/, and what the proofs of code that takes steps cite, in proofs/.
+// One step on a record and many equal ones: their definitions and laws only, in specs/, and what the proofs of code that takes steps cite, in proofs/.

@@ -2,6 +2,7 @@
 --     ready-step      validity, 7 and 8 cannot change along the way: where 14, 7 and 8 let a step pass, so they do the next one
 --     steps-keep      what one step keeps, many do; steps-ready: so 14, 7 and 8 let a further step pass
 --     steps-course    only the course and the losses of a record change
+--     onward-refused  what follows a refusal
 --     ran-none, ran-taken, ran-refused   the steps of a run, one after the other
 use mathlib.Core.Path.{_≡_, refl, sym, ap, subst, _∙_}
 use mathlib.Core.Bool.{true}
@@ -14,12 +15,13 @@ use Rattle.network.specs.Grid.{networkOf}
 use Rattle.record.specs.declared.Record.{Record}
 use Rattle.record.specs.declared.Answer.{Answer}
 use Rattle.record.specs.declared.Outcome.{Outcome}
-use Rattle.record.specs.Record.{gridOf, stateOf, answerOf}
+use Rattle.record.specs.Record.{gridOf, stateOf, outcomeOf, answerOf, repeatedOf}
+use Rattle.record.specs.Laws.{refusal-of, taken-of}
 use Rattle.validity.specs.Validity.{valid}
 use Rattle.step_judged.specs.declared.Advanced.{Advanced}
 use Rattle.step_rules.specs.Step.{withState, stepRefusal, stepOf}
 use Rattle.step_rules.specs.Ready.{Ready, courseOf, withCourse}
-use Rattle.step_rules.specs.Laws.{same-network, step-valid}
+use Rattle.step_rules.specs.Laws.{step-outcome, step-kept, same-network, step-valid}
 use Rattle.record.specs.declared.Repeated.{Repeated}
 use Rattle.step_rules.specs.Steps.{onward, stepsOf}
 use Rattle.step_run.specs.Ran.{ranOf}
@@ -56,33 +58,27 @@ module _ (r : Record) (rate dt : ℕ) where
 
 -- ---- many steps
 
+module _ (taken : ℕ) (r : Record) (next : Repeated) where
+  onward-keeps : (P : Record → Type 0) (k : ℕ) → P r → P (next .«record») → P (onward k r taken next .«record»)
+  unfolding onward repeatedOf
+  onward-keeps P zero here there = there
+  onward-keeps P (suc k) here there = here
+
+  onward-taken : (k : ℕ) → k ≡ 0 → onward k r taken next ≡ next
+  unfolding onward
+  onward-taken k e = rw (e, onward)
+
+  pub onward-refused : (k : ℕ) → (k ≡ 0 → ⊥) → onward k r taken next ≡ repeatedOf k r taken
+  unfolding onward
+  onward-refused zero z = absurd (z refl)
+  onward-refused (suc k) z = refl
+
 module _ (rate dt : ℕ) where
-  module _ (taken : ℕ) (a : Answer) (next : Record → Repeated) where
-    onward-keeps : (P : Record → Type 0) → P (a .«record») → P (next (a .«record») .«record») → P (onward taken a next .«record»)
-    unfolding onward
-    onward-keeps P here there = by-outcome (a .outcome)
-      where
-        by-outcome : (o : Outcome) → (let x : Repeated = elim o [ Outcome.Taken ↦ next (a .«record») | Outcome.Refused k ↦ record { outcome = Outcome.Refused k; «record» = a .«record»; taken = taken } ] in P (x .«record»))
-        by-outcome Outcome.Taken = there
-        by-outcome (Outcome.Refused k) = here
-
-    onward-taken : a .outcome ≡ Outcome.Taken → onward taken a next ≡ next (a .«record»)
-    unfolding onward
-    onward-taken e = rw (e, onward)
-
-    onward-refused : (k : ℕ) → a .outcome ≡ Outcome.Refused k → onward taken a next ≡ record { outcome = a .outcome; «record» = a .«record»; taken = taken }
-    unfolding onward
-    onward-refused k e = by-outcome (a .outcome) e
-      where
-        by-outcome : (o : Outcome) → o ≡ Outcome.Refused k → _≡_ {A = Repeated} (elim o [ Outcome.Taken ↦ next (a .«record») | Outcome.Refused k ↦ record { outcome = Outcome.Refused k; «record» = a .«record»; taken = taken } ]) (record { outcome = o; «record» = a .«record»; taken = taken })
-        by-outcome Outcome.Taken q = let z : _≡_ {A = ℕ} 0 1 = cc in absurd (omega arith)
-        by-outcome (Outcome.Refused j) q = refl
-
   steps-keep : (P : Record → Type 0) → ((q : Record) → P q → P (stepOf q rate dt .«record»)) → (taken n : ℕ) (r : Record) → P r → P (stepsOf rate dt taken n r .«record»)
-  unfolding stepsOf
+  unfolding stepsOf repeatedOf
   steps-keep P keeps taken zero r h = h
   steps-keep P keeps taken (suc n) r h =
-      onward-keeps taken (stepOf r rate dt) (stepsOf rate dt (suc taken) n) P (keeps r h)
+      onward-keeps taken r (stepsOf rate dt (suc taken) n (stepOf r rate dt .«record»)) P (stepRefusal r rate dt) h
       (steps-keep P keeps (suc taken) n (stepOf r rate dt .«record») (keeps r h))
 
   module _ (r : Record) where
@@ -95,7 +91,7 @@ module _ (rate dt : ℕ) where
     -- ---- the steps of a run, `taken` of them before
 
     pub ran-none : (taken n : ℕ) → n ≡ 0 → ranOf (stepsOf rate dt taken n r) ≡ record { outcome = Outcome.Taken; course = courseOf r; losses = r .losses; taken = taken }
-    unfolding stepsOf ranOf
+    unfolding stepsOf ranOf repeatedOf outcomeOf
     ran-none taken n e = rw e
 
     -- a step of which the outcome, the course and the losses are known
@@ -103,28 +99,34 @@ module _ (rate dt : ℕ) where
       pub ready-next : Ready r rate dt → Ready (withCourse r (v .course) ls) rate dt
       ready-next y = subst (λ q. Ready q rate dt) (sym (ap (λ x. x .«record») e)) (ready-step r rate dt y)
 
+      number-is : outcomeOf (stepRefusal r rate dt) ≡ v .outcome
+      number-is = sym (step-outcome r rate dt) ∙ sym (ap (λ x. x .outcome) e)
+
       module _ (taken n : ℕ) (h : 0 < n) where
         pub ran-taken : v .outcome ≡ Outcome.Taken → stepsOf rate dt (taken + 1) (n - 1) (withCourse r (v .course) ls) ≡ stepsOf rate dt taken n r
         unfolding stepsOf
         ran-taken t = by-count n h
           where
-            taken-so : stepOf r rate dt .outcome ≡ Outcome.Taken
-            taken-so = sym (ap (λ x. x .outcome) e) ∙ t
-
             by-count : (n : ℕ) → 0 < n → stepsOf rate dt (taken + 1) (n - 1) (withCourse r (v .course) ls) ≡ stepsOf rate dt taken n r
             by-count zero h = absurd (omega arith)
             by-count (suc n) h =
                 let k : suc n - 1 ≡ n = omega arith in
                 let j : taken + 1 ≡ suc taken = omega arith in
-                rw (k, j, ap (λ x. x .«record») e) (sym (onward-taken taken (stepOf r rate dt) (stepsOf rate dt (suc taken) n) taken-so))
+                rw (k, j, ap (λ x. x .«record») e) (sym (onward-taken taken r (stepsOf rate dt (suc taken) n (stepOf r rate dt .«record»)) (stepRefusal r rate dt) (taken-of _ (number-is ∙ t))))
 
         pub ran-refused : (k : ℕ) → v .outcome ≡ Outcome.Refused k → record { outcome = v .outcome; course = v .course; losses = ls; taken = taken } ≡ ranOf (stepsOf rate dt taken n r)
-        unfolding stepsOf ranOf
+        unfolding stepsOf ranOf repeatedOf
         ran-refused k t = by-count n h
           where
-            refused-so : stepOf r rate dt .outcome ≡ Outcome.Refused k
-            refused-so = sym (ap (λ x. x .outcome) e) ∙ t
+            some : stepRefusal r rate dt ≡ 0 → ⊥
+            some = refusal-of _ k (number-is ∙ t) .1
+
+            same : withCourse r (v .course) ls ≡ r
+            same = ap (λ x. x .«record») e ∙ step-kept r rate dt some
 
             by-count : (n : ℕ) → 0 < n → record { outcome = v .outcome; course = v .course; losses = ls; taken = taken } ≡ ranOf (stepsOf rate dt taken n r)
             by-count zero h = absurd (omega arith)
-            by-count (suc n) h = rw (onward-refused taken (stepOf r rate dt) (stepsOf rate dt (suc taken) n) k refused-so, ← e)
+            by-count (suc n) h =
+                ap (λ q. record { outcome = v .outcome; course = courseOf q; losses = q .losses; taken = taken }) same
+                ∙ ap (λ o. record { outcome = o; course = courseOf r; losses = r .losses; taken = taken }) (sym number-is)
+                ∙ ap ranOf (sym (onward-refused taken r (stepsOf rate dt (suc taken) n (stepOf r rate dt .«record»)) (stepRefusal r rate dt) some))

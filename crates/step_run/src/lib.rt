@@ -8,7 +8,7 @@ use step_sweep::Terms;
 ghost use mathlib.Core.Path.{_≡_};
 ghost use Prim.Native.Nat.{_≤_};
 ghost use Rattle.step_drawdowns.specs.Drawdowns.{Stands};
-ghost use Rattle.step_places.specs.Flows.{termsOf};
+ghost use Rattle.step_places.specs.Terms.{termsOf};
 ghost use Rattle.step_rules.specs.Ready.{Ready, courseOf};
 ghost use Rattle.step_rules.specs.Steps.{stepsOf};
 ghost use Rattle.step_run.specs.Ran.{ranOf};

@@ -20,7 +20,8 @@ use Rattle.network.specs.Grid.{place, placeCount, layersOf, onePerPlace, networ
 use Rattle.network.specs.laws.Cells.{joined, conductance-cell, conductance-well}
 use Rattle.network.specs.laws.Places.{by-place, place-below, getD-one}
 use Rattle.site.specs.Site.{isScreened, countsHold}
-use Rattle.site.specs.Laws.{Counts, counts-hold}
+use Rattle.site.specs.Laws.{counts-hold}
+use Rattle.site.specs.Limited.{Counts}
 use Rattle.record.specs.declared.Record.{Record}
 use Rattle.record.specs.Record.{slot, isCell, hasBelow, hasScreen, acrossIn, gridOf}
 use Rattle.coefficient_slots.specs.Slots.{usedSlot, coefficientsUnused}

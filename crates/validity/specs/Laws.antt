@@ -3,6 +3,7 @@
 --     Valid                      what a record that 14 lets pass is
 --     valid-record               from the test; record-valid: back to it
 --     valid-proper               the network of such a record is one on which steps can be taken
+--     zero-refused               14 refuses the all-zero record
 use mathlib.Core.Path.{_≡_, refl, ap}
 use mathlib.Core.Bool.{Bool, true, false, not, _&&_, false≢true}
 use Prim.Native.Nat.{_≤_, zero-le}
@@ -29,7 +30,7 @@ use Rattle.geometry.specs.Geometry.{wellStorage}
 use Rattle.site.specs.Site.{isScreened, countsHold, numbersHold, radiiHold, screenLayer, screenTop, screenHolds}
 use Rattle.site.specs.Laws.{numbers-hold}
 use Rattle.record.specs.declared.Record.{Record}
-use Rattle.record.specs.Record.{gridOf, stateOf}
+use Rattle.record.specs.Record.{zeroSite, zeroRecord, gridOf, stateOf}
 use Rattle.coefficient_slots.specs.Slots.{coefficientsHold, coefficientsUnused}
 use Rattle.coefficient_slots.specs.Laws.{Coefficients, coefficients-hold, hold-coefficients}
 use Rattle.validity_numbers.specs.Numbers.{siteHolds, siteUnused}
@@ -156,3 +157,9 @@ module _ (r : Record) where
       let well = numbers-hold (r .site) (v .numbers) .well in
       let unscreened = three-hold (ltb (screenLayer (r .site)) (r .site .layers)) (not (isScreened (r .site .screened) 0)) (ltb (r .site .intake) (screenTop (r .site))) (v .screen) .1 in
       proper-grid (gridOf r) (not-true _ unscreened) (omega (arith, v .wellStorage)) (λ i j h one k. omega (arith, v .coefficients .storage i j h one k .least)) (omega (arith, well .intake-most))
+
+-- ---- what start gives for a refused text has no layers
+
+pub zero-refused : valid zeroRecord ≡ false
+unfolding valid siteHolds countsHold zeroRecord zeroSite
+zero-refused = refl

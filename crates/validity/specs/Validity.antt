@@ -6,7 +6,7 @@ use lib.Dec.{leb, eqb}
 use lib.Signed.{leZ, nonNeg}
 use lib.ListN.{getD}
 use Rattle.laws.specs.Lists.{allBelow, every}
-use Rattle.limits.specs.Limits.{totalLimit, drawdownLimit}
+use Rattle.limits.specs.Limits.{cellPlaces, totalLimit, drawdownLimit}
 use Rattle.network.specs.Network.{Network, State, isPlace, drawdown, lossIn, wellTooDeep, tableTooDeep}
 use Rattle.network.specs.Grid.{networkOf}
 use Rattle.geometry.specs.Geometry.{wellStorage}
@@ -21,7 +21,7 @@ isZeroℤ (pos n) = eqb n 0
 isZeroℤ (negsuc n) = false
 
 unfoldable pub lossesUnused : Record → Bool
-lossesUnused r = allBelow 1000 (λ k. usedSlot (isCell (r .site)) k || isZeroℤ (getD (r .losses) k (pos 0)))
+lossesUnused r = allBelow cellPlaces (λ k. usedSlot (isCell (r .site)) k || isZeroℤ (getD (r .losses) k (pos 0)))
 
 -- ---- losses and inflow are not negative and add up to the pumped total, and that is at most 4×10^18, as the time is
 abbrev pub equalℤ : ℤ → ℤ → Bool

@@ -7,6 +7,7 @@ use lib.ListN.{getD, replicate}
 use Rattle.laws.specs.Fill.{fill, fill-none, fill-more}
 use native.Mathlib.Numerals.{add-one}
 use borrow.Author.Count.{below-none, below-more}
+use Rattle.geometry.specs.Geometry.{area}
 use Rattle.site.specs.Site.{radiiOf, midsection}
 use Rattle.site.specs.Columns.{logarithmAt, areaAt}
 use Rattle.coefficient_cells.proofs.Laws.{logarithm-is, area-is, filled}
@@ -84,7 +85,8 @@ loop-again c =
     let inv = at .loop .inv in
     let rises = at .before .pre .rises (at .loop .j) (omega arith) in
     let log = c .before .logarithm .ensures .0 ∙ logarithm-is _ (at .loop .j) _ _ (inv .2) (inv .4) in
-    let ring = c .area .ensures .0 ∙ area-is _ (at .loop .j) _ _ (inv .2) (inv .3) in
+    let of-radii : c .area .result ≡ area (at .loop .radius) (at .loop .previous) = c .area .ensures .0 in
+    let ring = of-radii ∙ area-is _ (at .loop .j) _ _ (inv .2) (inv .3) in
     let back : at .loop .j + 1 - 1 ≡ at .loop .j = omega arith in (
       omega arith,
       omega arith,

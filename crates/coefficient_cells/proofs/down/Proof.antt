@@ -1,7 +1,10 @@
 -- `coefficient_cells::down`: 0 where no layer or stored column is, else the rule of vertical C.
-use mathlib.Core.Path.{sym, _∙_}
+use mathlib.Core.Path.{_≡_, sym, _∙_}
 use Prim.Native.Nat.{_+_}
 use native.Mathlib.Omega.{arith}
+use lib.ListN.{getD}
+use Rattle.words.specs.Fitted.{fitted}
+use Rattle.geometry.specs.Geometry.{vertical}
 use Rattle.coefficient_cells.proofs.Laws.{unused, used, no-layer, no-column, cell, below-cell, down-is}
 use Rattle.coefficient_cells.proofs.down.Statement.{statement}
 use Rattle.coefficient_cells.proofs.down.Tie as tie
@@ -63,7 +66,11 @@ returns-3 : tie.Need-returns-3
 returns-3 c =
     let face = c .before .before .before .before .before .before .before in
     let at = face .before .before in
-    used _ (sym (below-cell _ _ _) ∙ cell (at .args .t1) _ _ (omega arith) (omega arith)) (c .before .vertical .ensures) (down-is _ _ _ (at .pre .1 .at (at .args .j) (omega arith))) (c .word-of .ensures)
+    let s = at .args .t1 in
+    let i = at .args .i in
+    let a = getD (at .args .areas .now) (at .args .j) 0 in
+    let divided : c .before .vertical .result ≡ fitted (vertical a (getD (s .thickness) i 0) (getD (s .kv) i 0) (getD (s .thickness) (i + 1) 0) (getD (s .kv) (i + 1) 0)) = c .before .vertical .ensures in
+    used _ (sym (below-cell _ _ _) ∙ cell (at .args .t1) _ _ (omega arith) (omega arith)) divided (down-is _ _ _ (at .pre .1 .at (at .args .j) (omega arith))) (c .word-of .ensures)
 
 pub down-spec : {M : Type 1} → statement M
 down-spec =

@@ -1,8 +1,10 @@
 -- `coefficient_slots::coefficients_hold`: the four arrays one after the other, as the definition has them.
-use mathlib.Core.Path.{sym, _∙_}
+use mathlib.Core.Path.{_≡_, sym, _∙_}
+use Prim.Native.Nat.{_-_}
 use borrow.Author.Needs.{needs}
 use borrow.Author.Tests.{not-true, not-false}
-use Rattle.coefficient_slots.specs.Held.{slotsHold}
+use Rattle.limits.specs.Limits.{conductanceLimit}
+use Rattle.coefficient_slots.specs.Held.{arrayHolds, slotsHold}
 use Rattle.coefficient_slots.proofs.coefficients_hold.Statement.{statement}
 use Rattle.coefficient_slots.proofs.coefficients_hold.Tie as tie
 
@@ -28,12 +30,16 @@ sub-slots-hold c = search needs
 slots-hold-requires-2 : tie.Need-slots-hold-requires-2
 slots-hold-requires-2 c κs = search needs
 
+-- the test of the vertical C
+vertical-test : (c : tie.After-slots-hold2) → let a = c .before .before .before .before .before .args in c .slots-hold2 .result ≡ arrayHolds (a .layers - 1) (a .columns) 0 conductanceLimit (a .vertical .now)
+vertical-test c = c .slots-hold2 .ensures
+
 returns-3 : tie.Need-returns-3
 unfolding slotsHold
 returns-3 c =
     let screen = sym (c .before .before .before .before .before .screen-slots-hold .ensures) ∙ not-false _ (c .before .before .before .before .if1 .left) in
     let horizontal = sym (c .before .before .before .slots-hold .ensures) ∙ not-false _ (c .before .before .if2 .left) in
-    rw (screen, horizontal, sym (c .before .slots-hold2 .ensures) ∙ not-true _ (c .if3 .taken))
+    rw (screen, horizontal, sym (vertical-test (c .before)) ∙ not-true _ (c .if3 .taken))
 
 slots-hold-requires-3 : tie.Need-slots-hold-requires-3
 slots-hold-requires-3 c κs = search needs
@@ -43,7 +49,7 @@ unfolding slotsHold
 returns-4 c =
     let screen = sym (c .before .before .before .before .before .before .screen-slots-hold .ensures) ∙ not-false _ (c .before .before .before .before .before .if1 .left) in
     let horizontal = sym (c .before .before .before .before .slots-hold .ensures) ∙ not-false _ (c .before .before .before .if2 .left) in
-    let vertical = sym (c .before .before .slots-hold2 .ensures) ∙ not-false _ (c .before .if3 .left) in
+    let vertical = sym (vertical-test (c .before .before)) ∙ not-false _ (c .before .if3 .left) in
     rw (screen, horizontal, vertical) (c .slots-hold3 .ensures)
 
 pub coefficients-hold-spec : {M : Type 1} → statement M

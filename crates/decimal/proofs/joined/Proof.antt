@@ -1,4 +1,5 @@
 -- `decimal::joined` meets its contract: a digit's byte is at least that of 0.
+use mathlib.Core.Path.{refl}
 use borrow.Author.Needs.{needs}
 use Rattle.decimal.specs.Laws.{digit-from}
 use Rattle.decimal.proofs.joined.Statement.{statement}
@@ -17,7 +18,7 @@ add-result : tie.Need-add-result
 add-result c = search needs
 
 returns : tie.Need-returns
-returns c = search needs
+returns c = refl
 
 pub joined-spec : {M : Type 1} → statement M
 joined-spec = tie.close (tie.spec mul-result sub-result cast-result add-result returns)

@@ -1,6 +1,6 @@
 -- `geometry::area` meets its contract: the squares are at most 4×10^12.
-use mathlib.Core.Path.{_∙_}
-use Prim.Native.Nat.{_*_, _-_, _≤_}
+use mathlib.Core.Path.{_≡_, _∙_}
+use Prim.Native.Nat.{_*_, _-_, _/_, _^_, _≤_}
 use native.Mathlib.Omega.{arith}
 use Rattle.geometry.proofs.Laws.{product-fits, square-at-most, area-is, area-small}
 use Rattle.geometry.proofs.area.Statement.{statement}
@@ -22,8 +22,10 @@ quotient-word-requires c κs =
 
 returns : tie.Need-returns
 returns c =
-    let h : c .before .args .outer * c .before .args .outer ≤ 2000000 * 2000000 = square-at-most 2000000 (omega arith) in
-    (c .quotient-word .ensures ∙ area-is (c .before .args .outer) (c .before .args .inner), omega (arith, area-small (c .before .args .outer * c .before .args .outer - c .before .args .inner * c .before .args .inner) (omega arith)))
+    let a = c .before .args in
+    let h : a .outer * a .outer ≤ 2000000 * 2000000 = square-at-most 2000000 (omega arith) in
+    let q : c .quotient-word .result ≡ 3373259426 * (a .outer * a .outer - a .inner * a .inner) / 2 ^ 30 = c .quotient-word .ensures in
+    (q ∙ area-is (a .outer) (a .inner), omega (arith, area-small (a .outer * a .outer - a .inner * a .inner) (omega arith)))
 
 pub area-spec : {M : Type 1} → statement M
 area-spec =

@@ -1,6 +1,6 @@
 -- `geometry::confined_storage` meets its contract.
-use mathlib.Core.Path.{sym, ap, _∙_}
-use Prim.Native.Nat.{_/_}
+use mathlib.Core.Path.{_≡_, sym, ap, _∙_}
+use Prim.Native.Nat.{_*_, _/_}
 use native.Mathlib.Nat.{mul-assoc}
 use native.Mathlib.Omega.{arith}
 use Rattle.words.specs.Fitted.{fitted}
@@ -18,7 +18,10 @@ quotient-requires c κs = search needs
 
 returns : tie.Need-returns
 unfolding confinedStorage
-returns c = c .quotient .ensures ∙ ap (λ n. fitted (n / 1000000)) (sym (mul-assoc (c .before .args .a) (c .before .args .b) (c .before .args .storage)))
+returns c =
+    let s = c .before .args in
+    let q : c .quotient .result ≡ fitted (s .a * (s .b * s .storage) / 1000000) = c .quotient .ensures in
+    q ∙ ap (λ n. fitted (n / 1000000)) (sym (mul-assoc (s .a) (s .b) (s .storage)))
 
 pub confined-storage-spec : {M : Type 1} → statement M
 confined-storage-spec = tie.close (tie.spec mul-quotient quotient-requires returns)

@@ -1,6 +1,6 @@
 -- `geometry::vertical` meets its contract: the divisor is above 0 where neither conductivity is 0.
-use mathlib.Core.Path.{sym, ap, _∙_}
-use Prim.Native.Nat.{_*_}
+use mathlib.Core.Path.{_≡_, sym, ap, _∙_}
+use Prim.Native.Nat.{_+_, _*_, _/_}
 use native.Mathlib.Omega.{arith}
 use Rattle.words.specs.Fitted.{fitted}
 use Rattle.geometry.proofs.Laws.{product-at-most, sum-fits, product-fits, closed-above, closed-below, divisor-above, both-open}
@@ -33,7 +33,10 @@ quotient-requires : tie.Need-quotient-requires
 quotient-requires c κs = divisor-above (c .before .before .args .a) _ _ _ _ (omega arith) (c .if2 .left)
 
 returns-3 : tie.Need-returns-3
-returns-3 c = c .quotient .ensures ∙ sym (ap fitted (both-open _ _ _ _ _ (c .before .before .if1 .left) (c .before .if2 .left)))
+returns-3 c =
+    let s = c .before .before .before .args in
+    let q : c .quotient .result ≡ fitted (s .a * 2 * (s .kv1 * s .kv2) / (s .b1 * s .kv2 + s .b2 * s .kv1)) = c .quotient .ensures in
+    q ∙ sym (ap fitted (both-open (s .a) (s .b1) (s .kv1) (s .b2) (s .kv2) (c .before .before .if1 .left) (c .before .if2 .left)))
 
 pub vertical-spec : {M : Type 1} → statement M
 vertical-spec =

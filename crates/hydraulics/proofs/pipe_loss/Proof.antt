@@ -1,7 +1,7 @@
 -- `hydraulics::pipe_loss` meets its contract: the operations are those of the definition, in its order.
 use mathlib.Core.Path.{ap, ap₂}
 use borrow.Author.Needs.{needs}
-use Rattle.hydraulics.specs.Hydraulics.{_⊕_, _⊖_, _⊗_, _⊘_, pipeLoss}
+use Rattle.hydraulics.specs.Hydraulics.{_⊕_, _⊖_, _⊗_, _⊘_, twiceGravity, gravity, pipeLoss}
 use Rattle.hydraulics.proofs.Laws.{twice-gravity-is, gravity-is}
 use Rattle.hydraulics.proofs.pipe_loss.Statement.{statement}
 use Rattle.hydraulics.proofs.pipe_loss.Tie as tie
@@ -29,7 +29,7 @@ returns c =
     let above = s .before .args .above in
     let length = ap₂ _⊘_ (c .before .whole .ensures .0) (c .whole2 .ensures .0) in
     let friction = ap₂ _⊗_ (ap₂ _⊗_ (s .millionths .ensures) length) (ap (v ⊗_) (c .before .before .absolute .ensures)) in
-    ap₂ _⊕_ (ap₂ _⊘_ friction twice-gravity-is) (ap ((above ⊗ above ⊖ v ⊗ v) ⊘_) gravity-is)
+    rw (twice-gravity-is, gravity-is) (ap (λ x. x ⊘ twiceGravity ⊕ (above ⊗ above ⊖ v ⊗ v) ⊘ gravity) friction)
 
 pub pipe-loss-spec : {M : Type 1} → statement M
 pipe-loss-spec =

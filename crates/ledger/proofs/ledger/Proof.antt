@@ -10,9 +10,8 @@ use Rattle.network.specs.Network.{atRest, drawdown, lossIn}
 use Rattle.network.specs.Kept.{Proper}
 use Rattle.network.specs.laws.Preserve.{loss-in-at-rest, kept-at-rest}
 use Rattle.record.specs.declared.Record.{Record}
-use Rattle.readings.specs.declared.Amount.{Amount}
 use Rattle.readings.specs.declared.Place.the-variants.{Cell}
-use Rattle.readings.specs.Readings.{numberOf, setOf}
+use Rattle.readings.specs.Readings.{amountOf, numberOf, setOf}
 use Rattle.validity.specs.Laws.{valid-record, valid-proper}
 use Rattle.scenario.specs.Scenario.{scenarioOf, startOf}
 use Rattle.start_laws.specs.Laws.{Carries, network-is, begun}
@@ -61,7 +60,7 @@ module _ (text : List ℕ) (r : Record) (h : Carries (scenarioOf text) (atRest (
     state = end .state;
     accepted = end .valid;
     budget = same-budget end;
-    loss = λ bytes e. same-loss end bytes e ∙ ap Amount.Given (set-balance bytes);
+    loss = λ bytes e. same-loss end bytes e ∙ ap (amountOf 0) (set-balance bytes);
     depth = same-depth end;
     natural = λ p e. depth-natural (networkFrom text) proper (kept-over (networkFrom text) proper (kept-at-rest (networkFrom text)) steps) (numberOf (gridFrom text) p);
     within = λ i j e. deepest (numberOf (gridFrom text) (Cell i j)) (cell-place (gridFrom text) i j e);

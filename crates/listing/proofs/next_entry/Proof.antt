@@ -1,8 +1,9 @@
 -- `listing::next_entry` meets its contract.
-use mathlib.Core.Path.{sym, _∙_}
+use mathlib.Core.Path.{_≡_, sym, _∙_}
 use Prim.Native.Nat.{_+_}
 use native.Mathlib.Numerals.{add-one}
 use borrow.Author.Needs.{needs}
+use Rattle.scenario.specs.Scenario.{entryOf}
 use Rattle.listing_lines.specs.Laws.{holds-length}
 use Rattle.listing.specs.Laws.{next-end, next-line}
 use Rattle.listing.specs.Printed.{next-past}
@@ -42,7 +43,8 @@ returns-2 : tie.Need-returns-2
 returns-2 c =
     let found = c .before .before .before in
     let a = found .before .before .before .args in
-    (c .end-piece2 .ensures .0 ∙ sym (next-end (a .text .now) (a .«record») (a .done) (a .done + 1) (add-one (a .done)) (sym (found .pumping-entry .ensures) ∙ c .before .enum-told .given .1)), c .end-piece2 .ensures .1)
+    let entry : found .pumping-entry .result ≡ entryOf (a .text .now) (a .done + 1) = found .pumping-entry .ensures in
+    (c .end-piece2 .ensures .0 ∙ sym (next-end (a .text .now) (a .«record») (a .done) (a .done + 1) (add-one (a .done)) (sym entry ∙ c .before .enum-told .given .1)), c .end-piece2 .ensures .1)
 
 returns-3 : tie.Need-returns-3
 returns-3 c =

@@ -8,7 +8,7 @@ use mir.Val.{toZ, ofZ}
 use mir.Facts.{toZ-ofZ}
 use borrow.Author.Needs.{needs}
 use Rattle.listing_lines.specs.Lines.{space, lineFeed, figureOf}
-use Rattle.listing_lines.specs.Laws.{appended}
+use Rattle.listing_lines.specs.Appended.{appended}
 use Rattle.listing_entry.proofs.Fields.{figures-held}
 use Rattle.listing_entry.proofs.figures_line.Statement.{statement}
 use Rattle.listing_entry.proofs.figures_line.Tie as tie
@@ -83,6 +83,8 @@ returns c =
     let time = zero .before in
     let number = time .before in
     let a = number .before .before .args in
+    let cells : three .with-figure3 .result ≡ appended (two .with-figure2 .result) (figureOf (toZ w64 (ofZ w64 (a .totals .«cell_loss»))) ++ (space ∷ [])) = three .with-figure3 .ensures .0 in
+    let whole : c .with-figure4 .result ≡ appended (three .with-figure3 .result) (figureOf (toZ w64 (ofZ w64 (a .totals .inflow))) ++ (lineFeed ∷ [])) = c .with-figure4 .ensures .0 in
     figures-held (a .number) (a .time) (a .well) (a .totals)
     (number .before .empty .ensures .0)
     (number .with-number .ensures .0)
@@ -90,8 +92,8 @@ returns c =
     (rw (toZ-ofZ (number .before .before .fits .well)) at (zero .with-figure .ensures .0))
     (one .with-number3 .ensures .0)
     (two .with-figure2 .ensures .0 ∙ ap (λ z. appended (one .with-number3 .result) (figureOf z ++ (space ∷ []))) (well-loss (two .before)))
-    (three .with-figure3 .ensures .0 ∙ ap (λ z. appended (two .with-figure2 .result) (figureOf z ++ (space ∷ []))) (cell-loss (three .before)))
-    (c .with-figure4 .ensures .0 ∙ ap (λ z. appended (three .with-figure3 .result) (figureOf z ++ (lineFeed ∷ []))) (inflow last))
+    (cells ∙ ap (λ z. appended (two .with-figure2 .result) (figureOf z ++ (space ∷ []))) (cell-loss (three .before)))
+    (whole ∙ ap (λ z. appended (three .with-figure3 .result) (figureOf z ++ (lineFeed ∷ []))) (inflow last))
     (omega (arith, six three, c .with-figure4 .ensures .1))
 
 pub figures-line-spec : {M : Type 1} → statement M

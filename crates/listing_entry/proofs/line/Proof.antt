@@ -2,7 +2,7 @@
 use mathlib.Core.Path.{sym, _∙_}
 use borrow.Author.Needs.{needs}
 use Rattle.listing_entry.specs.Length.{line-taken, line-refused}
-use Rattle.listing_entry.specs.Figures.{figures-read}
+use Rattle.listing_entry.specs.Laws.{figures-read}
 use Rattle.listing_entry.proofs.line.Statement.{statement}
 use Rattle.listing_entry.proofs.line.Tie as tie
 

@@ -3,6 +3,7 @@ use mathlib.Core.Path.{_≡_}
 use mir.Syntax.{w64}
 use mir.Val.{toZ, ofZ}
 use borrow.Author.Needs.{needs}
+use Rattle.readings.specs.Readings.{amountOf, balanceOf}
 use Rattle.listing_entry.specs.EntryLine.{readingsLine}
 use Rattle.listing_entry.proofs.readings_line.Statement.{statement}
 use Rattle.listing_entry.proofs.readings_line.Tie as tie
@@ -30,6 +31,7 @@ depth : (c : tie.After-known-told2) → toZ w64 (ofZ w64 (c .before .depth2 .giv
 depth c = search needs
 
 figures-line-requires : tie.Need-figures-line-requires
+unfolding amountOf balanceOf
 figures-line-requires c κs =
     let given = c .before .before .before in
     rw (depth given) (given .before .before .before .pre _ _ (given .before .depth2 .given .1) (c .before .balance2 .given .1))

@@ -1,5 +1,5 @@
 -- `listing_entry::refused_line` meets its contract.
-use mathlib.Core.Path.{ap, _∙_}
+use mathlib.Core.Path.{refl, ap, _∙_}
 use mathlib.Core.List.{append-assoc}
 use native.Mathlib.Omega.{arith}
 use Rattle.listing_lines.specs.Word.{word}
@@ -31,7 +31,7 @@ returns c =
     let entry = c .before .with-number in
     let word = c .before .before .with-word in
     let empty = c .before .before .before .before .empty in
-    holds _ (held-then _ _ (held-then _ _ (held-then _ _ (empty .ensures .0) (word .ensures .0)) (entry .ensures .0)) (c .with-number2 .ensures .0) ∙ ap held (simp append-assoc))
+    holds _ (held-then _ _ (held-then _ _ (held-then _ _ (empty .ensures .0) (word .ensures .0)) (entry .ensures .0)) (c .with-number2 .ensures .0) ∙ ap held (simp append-assoc refl))
     (omega (arith, c .with-number2 .ensures .1, entry .ensures .1, word .ensures .1, empty .ensures .1))
 
 pub refused-line-spec : {M : Type 1} → statement M

@@ -8,7 +8,8 @@ use lib.ListN.{length, getD, take}
 use lib.Seq.{take-all, take-suc, length-take-le}
 use borrow.Author.Needs.{needs}
 use Rattle.listing_lines.specs.declared.Line.{Line}
-use Rattle.listing_lines.specs.Laws.{followed, appended, appended-none, appended-more, length-appended}
+use Rattle.listing_lines.specs.Appended.{followed, appended}
+use Rattle.listing_lines.specs.Laws.{appended-none, appended-more, length-appended}
 use Rattle.listing_lines.proofs.with_word.Statement.{statement}
 use Rattle.listing_lines.proofs.with_word.Tie as tie
 
@@ -47,7 +48,8 @@ loop-again : tie.Need-loop-again Inv-loop μ-loop
 loop-again c =
     let at = c .before .before .before in
     let start = at .before .before in
-    (omega arith, c .followed .ensures ∙ more (start .args .line) (start .args .word .now) (at .loop .inv .1) (c .before .before .loop-test .taken))
+    let next : c .followed .result ≡ followed (at .loop .longer) (getD (start .args .word .now) (at .loop .i) 0) = c .followed .ensures in
+    (omega arith, next ∙ more (start .args .line) (start .args .word .now) (at .loop .inv .1) (c .before .before .loop-test .taken))
 
 returns : tie.Need-returns Inv-loop μ-loop
 returns c =

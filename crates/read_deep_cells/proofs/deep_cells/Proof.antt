@@ -45,7 +45,8 @@ count-deep-requires c κs = few (c .before .before)
 returns-2 : tie.Need-returns-2
 returns-2 c =
     let d = drawn (c .before) in
-    refused-13 _ _ (passed (d .before)) (d .depths .result) (d .depths .ensures) _ (c .before .count-deep .ensures) (c .if2 .taken)
+    let a = d .before .before .before .before .args in
+    refused-13 (a .«record») (a .depth) (passed (d .before)) (d .depths .result) (d .depths .ensures) (a .list .now) (c .before .count-deep .ensures) (c .if2 .taken)
 
 write-codes-requires : tie.Need-write-codes-requires
 write-codes-requires c κs =

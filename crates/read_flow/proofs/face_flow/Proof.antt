@@ -50,7 +50,7 @@ ahead : (c : tie.Else4) → known c .before .before .leads .result ≡ leads (gr
 ahead c = forth (known c .before .before)
 
 found : (c : tie.Else2) → let a = start (at-face c) .args in (leads (gridOf (a .«record»)) (a .from) (a .to) || leads (gridOf (a .«record»)) (a .to) (a .from)) ≡ true
-found c = sym (face-is (at-face c)) ∙ not-false _ (c .if2 .left)
+found c = sym (face-is (at-face c)) ∙ not-false (at-face c .before .before .leads .result || at-face c .before .leads2 .result) (c .if2 .left)
 
 sized : (c : tie.Else3) → lengthOut (start (at-face (at-length c)) .args .dt) ≡ false
 sized c = sym (at-face (at-length c) .length-out .ensures) ∙ c .if3 .left

@@ -32,7 +32,7 @@ of-layer : (c : tie.Else1) → (1 ≤ of-to c .to .given .0 .0) × (of-to c .to 
 of-layer c = layer-in (of-to c .to .given .0 .0) (start c .args .t1 .layers) (layer c)
 
 cell : (c : tie.Else2) → inGrid (start (at-layer c) .args .t1) (of-from c .from .given .0 .0) (of-from c .from .given .0 .1 .0) ≡ true
-cell c = not-false _ (c .if2 .left)
+cell c = not-false (inGrid (start (at-layer c) .args .t1) (of-from c .from .given .0 .0) (of-from c .from .given .0 .1 .0)) (c .if2 .left)
 
 of-cell : (c : tie.Else2) → (of-from c .from .given .0 .0 ≤ start (at-layer c) .args .t1 .layers) × (of-from c .from .given .0 .1 .0 < start (at-layer c) .args .t1 .columns)
 of-cell c = in-grid (start (at-layer c) .args .t1) (of-from c .from .given .0 .0) (of-from c .from .given .0 .1 .0) (cell c)
@@ -67,7 +67,9 @@ element-copy-out-result : tie.Need-element-copy-out-result
 element-copy-out-result c = omega (arith, start (c .before .before) .pre, of-layer (c .before .before))
 
 returns-3 : tie.Need-returns-3
-returns-3 c = λ q e. rw (c .before .enum-told2 .given .1, c .before .before .before .before .before .to .given .1) (from-well q _ e _ _ (layer (c .before .before .before)))
+returns-3 c =
+    let named = of-to (c .before .before .before) .to .given in
+    λ q e. rw (c .before .enum-told2 .given .1, named .1) (from-well q _ e (named .0 .0) (named .0 .1 .0) (layer (c .before .before .before)))
 
 returns-4 : tie.Need-returns-4
 returns-4 c = λ q e. rw (c .before .before .from .given .1, c .before .before .before .before .before .before .to .given .1) (no-cell q _ e _ _ (layer (c .before .before .before .before)) _ _ (not-true _ (c .if2 .taken)))

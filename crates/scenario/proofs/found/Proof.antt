@@ -1,6 +1,8 @@
 -- `scenario::found` meets its contract.
-use mathlib.Core.Path.{sym, ap, _∙_}
+use mathlib.Core.Path.{_≡_, sym, ap, _∙_}
+use Prim.Native.Nat.{_-_}
 use native.Mathlib.Omega.{arith}
+use Rattle.sections.specs.Sections.{entryAt}
 use Rattle.scenario.specs.declared.Pumping.{Pumping}
 use Rattle.scenario.proofs.Tests.{no-entry-zero, no-entry-past, some-entry}
 use borrow.Author.Needs.{needs}
@@ -25,7 +27,10 @@ entry-at-requires c κs =
     (p .0, p .1, omega (arith, c .before .entries .ensures (p .0) (p .1), c .before .before .if1 .left))
 
 returns-3 : tie.Need-returns-3
-returns-3 c = λ ns r. ap Pumping.Found (c .entry-at .ensures ns r) ∙ sym (some-entry ns (c .before .before .before .before .args .number) (c .before .before .before .if1 .left) (omega (arith, c .before .before .entries .ensures ns r)))
+returns-3 c = λ ns r.
+    let n = c .before .before .before .before .args .number in
+    let entry : c .entry-at .result ≡ entryAt ns (n - 1) = c .entry-at .ensures ns r in
+    ap Pumping.Found entry ∙ sym (some-entry ns n (c .before .before .before .if1 .left) (omega (arith, c .before .before .entries .ensures ns r)))
 
 pub found-spec : {M : Type 1} → statement M
 found-spec =

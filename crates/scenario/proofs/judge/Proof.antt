@@ -29,7 +29,7 @@ read-requires : tie.Need-read-requires
 read-requires c κs = search needs
 
 unread-requires : tie.Need-unread-requires
-unread-requires c κs = search needs
+unread-requires c κs = omega arith
 
 returns : tie.Need-returns
 returns c =
@@ -63,7 +63,7 @@ laid c =
     (ap (λ n. n .count) (found c .read .ensures) ∙ count-is (text-of c) form)
 
 unread-requires-2 : tie.Need-unread-requires-2
-unread-requires-2 c κs = search needs
+unread-requires-2 c κs = omega (arith, c .if2 .taken)
 
 returns-2 : tie.Need-returns-2
 returns-2 c =

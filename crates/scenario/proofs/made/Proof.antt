@@ -1,6 +1,7 @@
 -- `scenario::made` meets its contract: each return is the first condition that holds.
 use mathlib.Core.Path.{_≡_, sym, ap, ap₂, _∙_}
 use mathlib.Core.Bool.{true, _&&_}
+use native.Mathlib.Omega.{arith}
 use borrow.Author.Tests.{not-true, not-false}
 use Rattle.site.specs.Site.{numbersHold, radiiHold, screenHolds}
 use Rattle.record.specs.declared.Outcome.the-variants.{Taken}
@@ -42,7 +43,7 @@ numbers-hold-requires : tie.Need-numbers-hold-requires
 numbers-hold-requires c κs = search needs
 
 refused-requires : tie.Need-refused-requires
-refused-requires c κs = search needs
+refused-requires c κs = omega arith
 
 returns : tie.Need-returns
 returns c =
@@ -52,7 +53,7 @@ returns c =
     (c .refused .ensures)
 
 refused-requires-2 : tie.Need-refused-requires-2
-refused-requires-2 c κs = search needs
+refused-requires-2 c κs = omega arith
 
 returns-2 : tie.Need-returns-2
 returns-2 c =
@@ -63,7 +64,7 @@ radii-hold-requires : tie.Need-radii-hold-requires
 radii-hold-requires c κs = (from-else2 c .pre, numbered (c .before))
 
 refused-requires-3 : tie.Need-refused-requires-3
-refused-requires-3 c κs = search needs
+refused-requires-3 c κs = omega arith
 
 returns-3 : tie.Need-returns-3
 returns-3 c =
@@ -75,7 +76,7 @@ screen-holds-requires : tie.Need-screen-holds-requires
 screen-holds-requires c κs = (from-else3 c .pre, numbered (c .before .before .before))
 
 refused-requires-4 : tie.Need-refused-requires-4
-refused-requires-4 c κs = search needs
+refused-requires-4 c κs = omega arith
 
 returns-4 : tie.Need-returns-4
 returns-4 c =
@@ -89,7 +90,7 @@ coefficients-of-requires : tie.Need-coefficients-of-requires
 coefficients-of-requires c κs = (from-else4 c .pre, numbered (c .before .before .before .before .before), passed-4 (c .before .before))
 
 refused-requires-5 : tie.Need-refused-requires-5
-refused-requires-5 c κs = search needs
+refused-requires-5 c κs = omega arith
 
 returns-5 : tie.Need-returns-5
 returns-5 c =

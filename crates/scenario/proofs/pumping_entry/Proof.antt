@@ -4,7 +4,8 @@ use mathlib.Core.List.{List}
 use Prim.Native.Nat.{ℕ}
 use Rattle.text.specs.Text.{numbers}
 use Rattle.sections.specs.Reading.{Reads}
-use Rattle.scenario.specs.Scenario.{textRefusal}
+use Rattle.scenario.specs.declared.Pumping.{Pumping}
+use Rattle.scenario.specs.Scenario.{textRefusal, entryOf}
 use Rattle.scenario.proofs.Tests.{taken-zero, entry-refused, entry-found}
 use borrow.Author.Needs.{needs}
 use Rattle.scenario.proofs.pumping_entry.Statement.{statement}
@@ -37,7 +38,9 @@ returns : tie.Need-returns
 returns c =
     let told = c .before in
     let judged = told .before .before .before .before in
-    entry-refused (text-of judged) _ _ (judged .judge .ensures .0) (told .outcome .given .1)
+    let refusal = told .outcome .given .0 .0 in
+    let answer : Pumping.Refused refusal ≡ entryOf (text-of judged) (judged .before .before .args .number) = entry-refused (text-of judged) _ _ (judged .judge .ensures .0) (told .outcome .given .1) in
+    answer
 
 returns-2 : tie.Need-returns-2
 returns-2 c =

@@ -1,6 +1,9 @@
 -- `sections::entry_at` meets its contract.
+use mathlib.Core.Path.{_≡_}
 use Prim.Native.Nat.{_+_, _*_, _≤_, _<_}
 use native.Mathlib.Omega.{arith}
+use lib.ListN.{getD}
+use Rattle.sections.specs.declared.Entry.{Entry}
 use Rattle.sections.specs.Sections.{entriesOf, entryAt}
 use Rattle.sections.specs.Laws.{counts-most}
 use Rattle.sections.proofs.Places.{form, places, entries-read, entry-read}
@@ -52,8 +55,10 @@ returns c ns r =
     let i = s .args .i in
     let h : i < entriesOf ns = omega (arith, s .pre .2, entries-read (s .pre .1), entries-read r) in
     let at = s .args .layout .pumping + 3 * i in
-    rw
-    (entry-read r (3 * i) {j = at + 1} (omega arith) (omega arith), entry-read r (3 * i + 1) {j = at + 2} (omega arith) (omega arith), entry-read r (3 * i + 2) {j = at + 3} (omega arith) (omega arith))
+    let values = s .args .values .now in
+    let three : _≡_ {A = Entry} (record { rate = getD values (at + 1) 0; length = getD values (at + 2) 0; repeats = getD values (at + 3) 0 }) (entryAt ns i) =
+    rw (entry-read r (3 * i) {j = at + 1} (omega arith) (omega arith), entry-read r (3 * i + 1) {j = at + 2} (omega arith) (omega arith), entry-read r (3 * i + 2) {j = at + 3} (omega arith) (omega arith)) in
+    three
 
 pub entry-at-spec : {M : Type 1} → statement M
 entry-at-spec =

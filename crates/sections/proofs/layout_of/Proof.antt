@@ -38,7 +38,7 @@ few-layers : (c : tie.After-layer-count) → c .layer-count .result ≡ true →
 few-layers c e = between-most 2 layerPlaces _ (sym (c .layer-count .ensures) ∙ e)
 
 few-columns : (c : tie.After-column-count) → c .column-count .result ≡ true → getD (numbers-1 (c .before .before)) (c .before .before .judge .result .next) 0 ≤ columnPlaces
-few-columns c e = between-most 2 columnPlaces _ (sym (c .column-count .ensures) ∙ e)
+few-columns c e = between-most 2 columnPlaces (getD (numbers-1 (c .before .before)) (c .before .before .judge .result .next) 0) (sym (c .column-count .ensures) ∙ e)
 
 four-numbers : (c : tie.After-well-numbers) → eqb (four c) 4 ≡ true → four c ≤ 4
 four-numbers c e = omega (arith, eqb-true (four c) 4 e)

@@ -1,7 +1,7 @@
 -- `site::column_rises` meets its contract: its sums fit, since each radius is within its limits.
+use mathlib.Core.Path.{refl}
 use native.Mathlib.Omega.{arith}
 use borrow.Author.Tests.{leb-true}
-use borrow.Author.Needs.{needs}
 use Rattle.site.proofs.column_rises.Statement.{statement}
 use Rattle.site.proofs.column_rises.Tie as tie
 
@@ -15,7 +15,7 @@ mul-result : tie.Need-mul-result
 mul-result c = omega (arith, leb-true)
 
 returns : tie.Need-returns
-returns c = search needs
+returns c = refl
 
 pub column-rises-spec : {M : Type 1} → statement M
 column-rises-spec = tie.close (tie.spec add-result add-result-2 mul-result returns)

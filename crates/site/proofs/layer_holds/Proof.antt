@@ -1,4 +1,5 @@
 -- `site::layer_holds` meets its contract: the chain of tests is the definition's.
+use mathlib.Core.Path.{refl}
 use borrow.Author.Needs.{needs}
 use Rattle.site.specs.Site.{layerHolds}
 use Rattle.site.proofs.layer_holds.Statement.{statement}
@@ -12,7 +13,7 @@ storage-holds-requires c κs = search needs
 
 returns : tie.Need-returns
 unfolding layerHolds
-returns c = cc
+returns c = rw (c .before .between .ensures, c .storage-holds .ensures) refl
 
 pub layer-holds-spec : {M : Type 1} → statement M
 layer-holds-spec = tie.close (tie.spec between-requires storage-holds-requires returns)

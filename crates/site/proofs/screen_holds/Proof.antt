@@ -1,4 +1,5 @@
 -- `site::screen_holds` meets its contract: the chain of tests is the definition's.
+use mathlib.Core.Path.{refl}
 use native.Mathlib.Omega.{arith}
 use borrow.Author.Needs.{needs}
 use Rattle.site.specs.Site.{isScreened, screenHolds}
@@ -19,7 +20,7 @@ element-copy-out-result c = search needs
 
 returns : tie.Need-returns
 unfolding screenHolds isScreened
-returns c = cc
+returns c = rw (c .before .layer-top .ensures .0, c .before .before .topmost-screened .ensures) refl
 
 pub screen-holds-spec : {M : Type 1} → statement M
 screen-holds-spec =

@@ -4,6 +4,7 @@ use mathlib.Core.Bool.{true, false}
 use native.Mathlib.Omega.{arith}
 use borrow.Author.Tests.{not-true, not-false}
 use Rattle.network.specs.Network.{rateOrLengthOut}
+use Rattle.record.specs.declared.Outcome.the-variants.{Refused}
 use Rattle.validity.specs.Validity.{valid}
 use Rattle.step_rules.proofs.Laws.{refused-7, refused-8, well-back, inflow-back}
 use Rattle.step_rules.specs.Ready.{Ready}
@@ -65,7 +66,8 @@ returns-3 c =
     let asked = c .before .before .before in
     let ok = passed (from-some asked) in
     let a = from-valid (from-some asked) .args in
-    c .unmoved3 .ensures
+    let answer : c .unmoved3 .result ≡ record { outcome = Refused 7; «record» = a .«record»; taken = 0 } = c .unmoved3 .ensures in
+    answer
     ∙ repeat-refused (a .rate) (a .dt) (a .«record») (a .steps) (omega (arith, asked .if2 .left)) ok 7
     (refused-7 _ _ _ ok (sym (c .before .before .rate-or-length-out .ensures) ∙ c .before .if3 .taken))
 
@@ -81,7 +83,8 @@ returns-4 c =
     let asked = from-sized in-size in
     let ok = passed (from-some asked) in
     let a = from-valid (from-some asked) .args in
-    c .unmoved4 .ensures
+    let answer : c .unmoved4 .result ≡ record { outcome = Refused 8; «record» = a .«record»; taken = 0 } = c .unmoved4 .ensures in
+    answer
     ∙ repeat-refused (a .rate) (a .dt) (a .«record») (a .steps) (omega (arith, asked .if2 .left)) ok 8
     (refused-8 _ _ _ ok (sized in-size) (sym (c .before .before .stable .ensures) ∙ not-true _ (c .before .if4 .taken)))
 

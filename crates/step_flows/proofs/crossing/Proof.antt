@@ -3,7 +3,7 @@ use mathlib.Core.Path.{sym, ap, _∙_}
 use Prim.Native.Nat.{_≤_, _-_}
 use native.Mathlib.Omega.{arith}
 use borrow.Author.Needs.{needs}
-use lib.IntN.{pos, negℤ, +ℤ-idl}
+use lib.IntN.{pos, negℤ, _+ℤ_, +ℤ-idl}
 use mir.Syntax.{w64}
 use mir.Val.{SFits}
 use mir.Facts.{toZ-ofZ}
@@ -48,7 +48,9 @@ cast-result-2 c = omega (arith, small₂ c)
 sub-result : tie.Need-sub-result
 sub-result c =
     let h = small₂ c in
-    rw (read {n = c .quotient-word2 .result} (omega arith), +ℤ-idl) (opposite c)
+    let q = c .quotient-word2 .result in
+    let fits : SFits w64 (pos 0 +ℤ negℤ (pos q)) = rw +ℤ-idl (opposite c) in
+    rw (read {n = q} (omega arith)) fits
 
 returns : tie.Need-returns
 returns c =

@@ -1,5 +1,6 @@
 -- `step_flows::reduced` meets its contract: C in use is at most C, so that the quotient fits a word.
 use mathlib.Core.Path.{sym, ap, _∙_}
+use Prim.Native.Nat.{_+_, _-_, _*_, _/_, _^_, _<_}
 use native.Mathlib.Nat.{lt-of-le-of-lt}
 use native.Mathlib.Omega.{arith}
 use borrow.Author.Needs.{needs}
@@ -24,7 +25,9 @@ quotient-word-requires : tie.Need-quotient-word-requires
 quotient-word-requires c κs =
     let a = c .args in
     let p = c .pre in
-    (p .0, rw (p .1) (lt-of-le-of-lt (reduced-le (a .thickness) (a .c) (a .here) (a .next) (p .2) (p .3)) (omega arith)))
+    let full = 1000 * a .thickness in
+    let fits : a .c * (full - a .here + (full - a .next)) / (2000 * a .thickness) < 2 ^ 64 = lt-of-le-of-lt (reduced-le (a .thickness) (a .c) (a .here) (a .next) (p .2) (p .3)) (omega arith) in
+    (p .0, rw (p .1) fits)
 
 returns : tie.Need-returns
 returns c =

@@ -10,9 +10,10 @@ use lib.ListN.{getD}
 use mir.Syntax.{w64}
 use mir.Val.{toZ, ofZ}
 use Rattle.laws.specs.Fill.{fill}
+use Rattle.record.specs.Record.{outcomeOf}
 use Rattle.step_conditions.specs.Conditions.{totalsFull}
 use Rattle.step_sweep.specs.Worked.{Lent, lent, wellAfter, inflowAfter, workedOf, lossesOf}
-use Rattle.step_judged.specs.Course.{halts, Advancing}
+use Rattle.step_judged.specs.Course.{tooDeep, halts, Advancing}
 use Rattle.step_judged.proofs.Laws.{well-back, inflow-back, well-after-back, inflow-after-back, totals-fit, halted-is, halted-9, taken, judged, restored}
 use Rattle.step_judged.proofs.advance.Statement.{statement}
 use Rattle.step_judged.proofs.advance.Tie as tie
@@ -79,7 +80,9 @@ from-judged c = from-told (c .before .before)
 number-is : (c : tie.After-too-deep) → let s = start (from-judged c) in c .too-deep .result ≡ halts (held s) (s .args .terms .intake) (s .args .course .pumped) (s .args .course .time)
 number-is c =
     let at = from-judged c in
-    c .too-deep .ensures ∙ judged _ _ _ _ _ _ _ _ _ _ (roomy (counted (at .before))) (well-worked at) (losses-worked at)
+    let a = start at .args in
+    let deep : c .too-deep .result ≡ tooDeep (a .terms) (toZ w64 (ofZ w64 (at .work-step .result .«well_loss»))) (now (a .storages)) (left at) = c .too-deep .ensures in
+    deep ∙ judged _ _ _ _ _ _ _ _ _ _ (roomy (counted (at .before))) (well-worked at) (losses-worked at)
 
 -- ---- the answers
 
@@ -87,7 +90,7 @@ totals-pass-requires : tie.Need-totals-pass-requires
 totals-pass-requires c κs = let q = asked c in (q .pumped, q .time, q .workable .rate, q .workable .dt)
 
 halted-requires : tie.Need-halted-requires
-halted-requires c κs = tt
+halted-requires c κs = omega arith
 
 returns : tie.Need-returns
 returns c =
@@ -108,7 +111,7 @@ restore-requires : tie.Need-restore-requires
 restore-requires c κs = let q = asked (start (from-judged (c .before .before .before))) .workable in (q .layers .0, q .layers .1, omega (arith, q .columns), q .columns .1)
 
 halted-requires-2 : tie.Need-halted-requires-2
-halted-requires-2 c κs = tt
+halted-requires-2 c κs = omega (arith, c .before .before .before .if2 .taken)
 
 returns-2 : tie.Need-returns-2
 returns-2 c =
@@ -116,7 +119,8 @@ returns-2 c =
     let at = from-judged (n .before) in
     let s = start at in
     let h = halted-is (held s) (s .args .terms .intake) (s .args .course .pumped) (s .args .course .time) (n .before .too-deep .result) (omega (arith, n .if2 .taken)) (number-is (n .before)) in
-    record { answer = c .halted2 .ensures ∙ h .0; losses = undone at (c .before .restore .ensures) ∙ h .1; scratch = at .work-step .ensures .scratch }
+    let answer : c .halted2 .result ≡ record { outcome = outcomeOf (n .before .too-deep .result); course = s .args .course } = c .halted2 .ensures in
+    record { answer = answer ∙ h .0; losses = undone at (c .before .restore .ensures) ∙ h .1; scratch = at .work-step .ensures .scratch }
 
 fit : (c : tie.Else2) → let a = start (from-judged (c .before)) .args in (a .terms .rate * a .terms .dt < 2 ^ 64) × (a .course .pumped + a .terms .rate * a .terms .dt < 2 ^ 64) × (a .course .time + a .terms .dt < 2 ^ 64)
 fit c = totals-fit (asked (start (from-judged (c .before))))

@@ -2,6 +2,7 @@
 use mathlib.Core.Path.{_≡_, sym, ap, _∙_}
 use mathlib.Core.Bool.{false}
 use Prim.Native.Nat.{_*_}
+use denote.Ref.{now}
 use mir.Facts.{toZ-ofZ}
 use Rattle.laws.specs.Refusal.{first-is}
 use Rattle.laws.specs.Refusal.First.{none, hit, skip}
@@ -29,7 +30,10 @@ table-too-deep-requires c κs = c .before .before .pre .1
 
 returns-2 : tie.Need-returns-2
 unfolding tooDeep
-returns-2 c = first-is (skip (shallow (c .before .before)) (hit (sym (c .before .table-too-deep .ensures) ∙ c .if2 .taken)))
+returns-2 c =
+    let a = c .before .before .before .before .args in
+    let number : 11 ≡ tooDeep (a .terms) (a .well-loss) (now (a .storages)) (now (a .losses)) = first-is (skip (shallow (c .before .before)) (hit (sym (c .before .table-too-deep .ensures) ∙ c .if2 .taken))) in
+    number
 
 returns-3 : tie.Need-returns-3
 unfolding tooDeep

@@ -1,4 +1,5 @@
 -- `step_losses::upper` meets its contract: only the top layer has none above it.
+use mathlib.Core.Path.{refl}
 use Prim.Native.Nat.{_≤_}
 use native.Mathlib.Omega.{arith}
 use borrow.Author.Needs.{needs}
@@ -26,7 +27,7 @@ returns c = rw (lt-leb _ _ (c .before .pre .1 (c .if1 .taken)))
 
 returns-2 : tie.Need-returns-2
 unfolding ifℤ
-returns-2 c = rw (le-leb _ _ (below-top (c .before)), back _ (c .result .given))
+returns-2 c = rw (le-leb _ _ (below-top (c .before)), back _ (c .result .given)) refl
 
 pub upper-spec : {M : Type 1} → statement M
 upper-spec = tie.close (tie.spec sub-result mul-result element-copy-out-result returns returns-2)

@@ -1,5 +1,5 @@
 -- `step_run::course_of` meets its contract: the signed fields are read back as they are.
-use mathlib.Core.Path.{_≡_}
+use mathlib.Core.Path.{_≡_, refl}
 use mir.Syntax.{w64}
 use mir.Val.{toZ, ofZ}
 use mir.Facts.{toZ-ofZ}
@@ -13,7 +13,7 @@ inflow-back : (c : tie.After-struct-told2) → let r = c .before .before .args .
 inflow-back c = toZ-ofZ (record { sfits = c .struct-told2 .given .1 .1 .1 .1 .1 .1 .1 .1 .1 .0 .1 })
 
 returns : tie.Need-returns
-returns c = rw (well-back (c .before), inflow-back c)
+returns c = rw (well-back (c .before), inflow-back c) refl
 
 pub course-of-spec : {M : Type 1} → statement M
 course-of-spec = tie.close (tie.spec returns)

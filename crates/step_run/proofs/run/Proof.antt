@@ -12,7 +12,7 @@ use Rattle.step_rules.specs.Step.{stepOf}
 use Rattle.step_rules.specs.Ready.{Ready, withCourse}
 use Rattle.step_rules.proofs.Laws.{few-layers, asks-terms, stepped, scratch-zeros}
 use Rattle.step_rules.specs.Steps.{stepsOf}
-use Rattle.step_places.specs.Flows.{termsOf}
+use Rattle.step_places.specs.Terms.{termsOf}
 use Rattle.step_run.specs.Ran.{ranOf}
 use Rattle.step_run.specs.Laws.{ready-next, ran-none, ran-taken, ran-refused}
 use Rattle.step_run.proofs.run.Statement.{statement}

@@ -68,7 +68,9 @@ module _ (d : tie.After-drawdowns) where
 
   well-is : pos well ≡ wellDepth (lentTo first)
   unfolding wellDepth
-  well-is = seen .drawdown-by .ensures ∙ ap (λ z. depthOf z (first .args .terms .«well_storage»)) (toZ-ofZ (first .fits .well-loss))
+  well-is =
+      let at-start : pos well ≡ depthOf (toZ w64 (ofZ w64 (first .args .well-loss))) (first .args .terms .«well_storage») = seen .drawdown-by .ensures in
+      at-start ∙ ap (λ z. depthOf z (first .args .terms .«well_storage»)) (toZ-ofZ (first .fits .well-loss))
 
   well-le : well ≤ drawdownLimit
   well-le = ≤ℤ-pos (rw (sym well-is) at (asked first .well .1))

@@ -1,11 +1,13 @@
 -- `validity_totals::totals_agree`: the tests one after the other.
 use mathlib.Core.Path.{_≡_, sym, ap₂, _∙_}
-use mathlib.Core.Bool.{true, _&&_}
+use mathlib.Core.Bool.{true, false, _&&_}
 use borrow.Author.Needs.{needs}
 use borrow.Author.Tests.{not-true, not-false, le-leb, lt-leb}
+use lib.Dec.{leb}
 use lib.Signed.{nonNeg}
 use mir.Facts.{toZ-ofZ}
 use Rattle.laws.specs.All.{and-left, and-right}
+use Rattle.limits.specs.Limits.{totalLimit}
 use Rattle.validity_totals.specs.Totals.{totalsAgree}
 use Rattle.validity_totals.proofs.totals_agree.Statement.{statement}
 use Rattle.validity_totals.proofs.totals_agree.Tie as tie
@@ -36,11 +38,15 @@ returns c = rw (sym (signs (c .before)) ∙ not-true _ (c .if1 .taken))
 
 returns-2 : tie.Need-returns-2
 unfolding totalsAgree
-returns-2 c = rw (signs-passed (c .before), lt-leb _ _ (c .if2 .taken))
+returns-2 c =
+    let over : leb (start (c .before) .args .pumped) totalLimit ≡ false = lt-leb _ _ (c .if2 .taken) in
+    rw (signs-passed (c .before), over)
 
 returns-3 : tie.Need-returns-3
 unfolding totalsAgree
-returns-3 c = rw (signs-passed (c .before .before), le-leb _ _ (c .before .if2 .left), lt-leb _ _ (c .if3 .taken))
+returns-3 c =
+    let over : leb (start (c .before .before) .args .time) totalLimit ≡ false = lt-leb _ _ (c .if3 .taken) in
+    rw (signs-passed (c .before .before), le-leb _ _ (c .before .if2 .left), over)
 
 size-requires : tie.Need-size-requires
 size-requires c κs = let s = start (signed c) in rw (toZ-ofZ (s .fits .well)) (and-left (nonNeg (s .args .well)) (nonNeg (s .args .inflow)) (signs-passed (signed c)))

@@ -112,7 +112,10 @@ by-full-width-requires : tie.Need-by-full-width-requires
 by-full-width-requires c κs = rw (divisor (c .before)) (full (c .before) .0, top-below (c .before))
 
 returns-2 : tie.Need-returns-2
-returns-2 c = c .by-full-width .ensures ∙ same (c .before .before)
+returns-2 c =
+    let x = c .before .before in
+    let q : c .by-full-width .result ≡ (top x * 2 ^ 64 + low x * up x % 2 ^ 64) / (d x * up x % 2 ^ 64) = c .by-full-width .ensures in
+    q ∙ same x
 
 pub by-word-spec : {M : Type 1} → statement M
 by-word-spec =

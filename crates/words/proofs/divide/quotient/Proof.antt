@@ -14,7 +14,7 @@ product-requires : tie.Need-product-requires
 product-requires c κs = search needs
 
 by-word-requires : tie.Need-by-word-requires
-by-word-requires c κs = search needs
+by-word-requires c κs = c .if1 .taken
 
 -- the product, where its words are known
 abbrev whole : tie.After-product → ℕ

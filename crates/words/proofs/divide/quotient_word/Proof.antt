@@ -14,7 +14,7 @@ by-word-requires : tie.Need-by-word-requires
 by-word-requires c κs = rw (c .product .ensures .0) (swap-lt (c .before .args .a * c .before .args .b) (c .before .pre .0) (omega arith) (c .before .pre .1))
 
 returns : tie.Need-returns
-returns c = of-words _ _ (c .before .product .ensures .0) (c .before .product .ensures .1) (c .by-word .ensures)
+returns c = of-words (c .before .before .args .a * c .before .before .args .b) (c .before .before .args .d) (c .before .product .ensures .0) (c .before .product .ensures .1) (c .by-word .ensures)
 
 pub quotient-word-spec : {M : Type 1} → statement M
 quotient-word-spec = tie.close (tie.spec product-requires by-word-requires returns)
