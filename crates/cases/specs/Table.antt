@@ -8,7 +8,7 @@ use lib.ListN.{getD}
 use Rattle.laws.specs.Lists.{allBelow, padded, first, ifℕ, ifℤ, sumℕ, sumℤ, range, some}
 use Rattle.network.specs.Network.{Network, State, atRest, isPlace, lossAt, storageAt, drawdown, saturated, inUse, water, crossing, flow, outflow, toward, inward, lossAfter, lossesAfter, fromLastColumn, moved, lengthOut, rateOrLengthOut, conductanceSum, stable, unstable, totalsPass, wellTooDeep, tableTooDeep, stepTests, refusal}
 use Rattle.network.specs.Grid.{Grid, layersOf, upperLayers, storedColumns, place, placeCount, onePerPlace, acrossFace, downFace, screenFaces, facesOf, networkOf}
-use Rattle.geometry.specs.Geometry.{terms, ratio, logarithm, area, horizontal, vertical, unconfinedStorage, confinedStorage, wellStorage}
+use Rattle.geometry.specs.Geometry.{terms, ratio, seriesLogarithm, logarithm, area, horizontal, vertical, unconfinedStorage, confinedStorage, wellStorage}
 use Rattle.site.specs.declared.Site.{Site}
 use Rattle.site.specs.Columns.{logarithmAt, areaAt}
 use Rattle.site.specs.Site.{isScreened, midsection}
@@ -128,7 +128,7 @@ abbrev siteK : Site
 siteK = siteOf numbersK
 
 network-K : networkOf (scenarioGrid siteK) ≡ networkK
-unfolding networkK numbersK padded range flatMap layersOf upperLayers storedColumns place placeCount onePerPlace acrossFace downFace screenFaces facesOf networkOf terms ratio logarithm area horizontal vertical unconfinedStorage confinedStorage wellStorage isScreened midsection sectionCount sectionOf restOf fromColumns fromWell fromLoss field siteOf logarithmAt areaAt acrossOf downOf storageOf scenarioGrid
+unfolding networkK numbersK padded range flatMap layersOf upperLayers storedColumns place placeCount onePerPlace acrossFace downFace screenFaces facesOf networkOf terms ratio seriesLogarithm logarithm area horizontal vertical unconfinedStorage confinedStorage wellStorage isScreened midsection sectionCount sectionOf restOf fromColumns fromWell fromLoss field siteOf logarithmAt areaAt acrossOf downOf storageOf scenarioGrid
 network-K = refl
 
 rest-K : atRest networkK ≡ state0
@@ -149,7 +149,7 @@ third-K = refl
 
 -- the rows of start
 start-agrees : Agree (startRows (record { outcome = outcomeOf 0; «record» = startRecord siteK }))
-unfolding Agree startRows outcomeNumber outcomeOf numbersK padded range terms ratio logarithm area horizontal vertical unconfinedStorage confinedStorage isScreened midsection sectionCount sectionOf restOf fromColumns fromWell fromLoss field siteOf slot slots layerSlots isCell hasBelow hasScreen logarithmAt areaAt acrossOf downOf storageOf startRecord
+unfolding Agree startRows outcomeNumber outcomeOf numbersK padded range terms ratio seriesLogarithm logarithm area horizontal vertical unconfinedStorage confinedStorage isScreened midsection sectionCount sectionOf restOf fromColumns fromWell fromLoss field siteOf slot slots layerSlots isCell hasBelow hasScreen logarithmAt areaAt acrossOf downOf storageOf startRecord
 start-agrees = refl
 
 answer-agrees : Agree (startRows (startOf boreK))
@@ -186,7 +186,7 @@ length-agrees r h = subst (λ f. Agree (lengthRows f)) (sym (fun-ext (λ dt. ap 
 
 -- the rows of the third step
 faces-computed : Agree (faceRows (gridOf (startRecord siteK)) networkK (state2 .losses))
-unfolding Agree faceRows networkK state2 numbersK padded range place placeCount acrossFace downFace terms ratio logarithm area horizontal vertical isScreened midsection sectionCount sectionOf restOf fromColumns fromWell fromLoss field siteOf slot slots layerSlots isCell hasBelow hasScreen logarithmAt areaAt acrossOf downOf startRecord acrossIn gridOf lossAt storageAt drawdown saturated inUse water crossing flow
+unfolding Agree faceRows networkK state2 numbersK padded range place placeCount acrossFace downFace terms ratio seriesLogarithm logarithm area horizontal vertical isScreened midsection sectionCount sectionOf restOf fromColumns fromWell fromLoss field siteOf slot slots layerSlots isCell hasBelow hasScreen logarithmAt areaAt acrossOf downOf startRecord acrossIn gridOf lossAt storageAt drawdown saturated inUse water crossing flow
 faces-computed = refl
 
 faces-agree : (r : Record) → InState state2 r → Agree (faceRows (gridOf r) (networkOf (gridOf r)) (stateOf r .losses))

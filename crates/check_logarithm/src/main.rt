@@ -3,10 +3,13 @@
 use check_print::print_line_end;
 use check_print::print_number;
 use libc::STDOUT_FILENO;
+use limits::MIDSECTION_FACTOR;
 ghost use Prim.Native.Nat.{_*_, _<_, _≤_};
+ghost use Rattle.limits.specs.Limits.{midsectionFactor};
 
-// The pairs farthest from the true logarithm, p before q, the worst pair first, as the reference model finds them (model worst 100).
-const WORST: [u64; 200] = [
+// The pairs farthest from the true logarithm, p before q, as the reference model finds them (model worst 100): a hundred with p up to 3q, then a
+// hundred with p above 3q, each the worst first.
+const WORST: [u64; 400] = [
     1251543,
     425198,
     3764410,
@@ -207,10 +210,210 @@ const WORST: [u64; 200] = [
     1200501,
     3108024,
     1056121,
+    3754629,
+    425198,
+    1935621,
+    219202,
+    2360244,
+    267289,
+    308089,
+    34890,
+    1623484,
+    183889,
+    194143,
+    21986,
+    453710,
+    51381,
+    2869973,
+    325014,
+    2025905,
+    229427,
+    2354138,
+    266649,
+    3840327,
+    434903,
+    3866097,
+    437843,
+    2825325,
+    319958,
+    3881622,
+    439577,
+    1033574,
+    117071,
+    1481858,
+    167815,
+    1588934,
+    179941,
+    444032,
+    50285,
+    2823584,
+    319761,
+    962009,
+    108944,
+    1085570,
+    122937,
+    3361588,
+    381009,
+    3790265,
+    429254,
+    1954739,
+    221378,
+    3336287,
+    377895,
+    1741423,
+    197248,
+    3768693,
+    426791,
+    614992,
+    69659,
+    1379358,
+    156215,
+    953381,
+    107988,
+    520317,
+    58924,
+    3758630,
+    425733,
+    3407509,
+    385888,
+    971693,
+    110041,
+    2552593,
+    293685,
+    633751,
+    71770,
+    3810932,
+    433101,
+    54845,
+    6211,
+    3242984,
+    367327,
+    2115353,
+    239556,
+    1259493,
+    142633,
+    2697651,
+    305500,
+    3258448,
+    374895,
+    3026220,
+    348181,
+    1157541,
+    131119,
+    2014577,
+    228190,
+    3513307,
+    397946,
+    261706,
+    29649,
+    1019768,
+    115485,
+    2702299,
+    306040,
+    2402373,
+    272060,
+    2692936,
+    309831,
+    2556955,
+    289566,
+    1371004,
+    155263,
+    3727883,
+    422190,
+    129566,
+    14697,
+    3871142,
+    438393,
+    2580507,
+    292234,
+    3936658,
+    445855,
+    1732313,
+    196177,
+    724271,
+    82311,
+    2828101,
+    320288,
+    1779519,
+    201527,
+    2957107,
+    334946,
+    3992140,
+    452101,
+    1013398,
+    114765,
+    3739595,
+    423514,
+    1599637,
+    181162,
+    3889292,
+    440533,
+    1391435,
+    157834,
+    1814812,
+    205521,
+    2801693,
+    317312,
+    3908793,
+    442654,
+    3566667,
+    403912,
+    3001321,
+    345393,
+    3973500,
+    450071,
+    3513715,
+    397992,
+    1006788,
+    114037,
+    3745939,
+    424219,
+    1139242,
+    129015,
+    586659,
+    66437,
+    3990388,
+    451897,
+    3866015,
+    437896,
+    2466377,
+    279309,
+    340418,
+    38553,
+    2814899,
+    318778,
+    1574215,
+    178274,
+    2630127,
+    297854,
+    3603783,
+    408214,
+    2875669,
+    325659,
+    850587,
+    96326,
+    3796567,
+    429968,
+    3757004,
+    425815,
+    3109211,
+    352179,
+    1906063,
+    220240,
+    3589303,
+    406554,
+    165491,
+    19122,
+    2680217,
+    303540,
+    3532877,
+    400167,
+    1962095,
+    222243,
 ];
 
 fn print_pair(p: u64, q: u64)
-    requires { ⌜ (q < p) × (p ≤ 3 * q) × (p ≤ 4000000) ⌝ }
+    requires { ⌜ (q < p) × (p ≤ midsectionFactor * q) × (p ≤ 4000000) ⌝ }
 {
     io::print_decimal(STDOUT_FILENO, p);
     print_number(q);
@@ -218,20 +421,28 @@ fn print_pair(p: u64, q: u64)
     print_line_end();
 }
 
-// Ratios from the smallest, (q + 1) / q, to the largest, 3.
-fn print_ratios(q: u64)
-    requires { ⌜ (20 ≤ q) × (q ≤ 4000000) ⌝ }
+// Pairs of q, p from `from` + 1 to 3 times `from`.
+fn print_span(from: u64, q: u64)
+    requires { ⌜ (20 ≤ q) × (q ≤ from) × (from ≤ 3 * q) × (q ≤ 4000000) ⌝ }
 {
-    let mut p = q + 1;
-    while p < 3 * q {
+    let mut p = from + 1;
+    while p < 3 * from {
         if p <= 4000000 {
             print_pair(p, q);
         }
-        p += q / 20 + 1;
+        p += from / 20 + 1;
     }
-    if 3 * q <= 4000000 {
-        print_pair(3 * q, q);
+    if 3 * from <= 4000000 {
+        print_pair(3 * from, q);
     }
+}
+
+// Ratios from the smallest, (q + 1) / q, to 3, and from the next, (3q + 1) / q, to the largest, 9.
+fn print_ratios(q: u64)
+    requires { ⌜ (20 ≤ q) × (q ≤ 4000000) ⌝ }
+{
+    print_span(q, q);
+    print_span(3 * q, q);
 }
 
 // A pair that rule 4 allows, and no other.
@@ -242,14 +453,14 @@ fn print_allowed(p: u64, q: u64) {
     if q >= p {
         return;
     }
-    if p <= 3 * q {
+    if p <= MIDSECTION_FACTOR * q {
         print_pair(p, q);
     }
 }
 
 fn print_worst() {
     let mut k = 0;
-    while k < 199 {
+    while k < 399 {
         print_allowed(WORST[k], WORST[k + 1]);
         k += 2;
     }
@@ -262,6 +473,7 @@ fn main() {
         print_ratios(q);
         q += q / 7 + 1;
     }
+    print_ratios(444444);
     print_ratios(1333333);
     print_ratios(3999999);
     print_worst();

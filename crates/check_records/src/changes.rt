@@ -60,6 +60,14 @@ pub fn layers(before: Site, case: u64) -> Site {
     site
 }
 
+// R_1 and R_2.
+fn with_radii(before: Site, first: u64, second: u64) -> Site {
+    let mut site = before;
+    site.radii[0] = first;
+    site.radii[1] = second;
+    site
+}
+
 // Limits of the radii and of the well's numbers; rules 4 and 5.
 pub fn numbers(before: Site, case: u64) -> Site {
     let mut site = before;
@@ -77,18 +85,21 @@ pub fn numbers(before: Site, case: u64) -> Site {
         11 => site.friction = 0,
         12 => site.friction = 1000000,
         13 => site.friction = 1000001,
-        14 => site.well_radius = 99,
-        15 => site.well_radius = 101,
-        16 => site.radii[0] = 499,
-        17 => site.radii[0] = 501,
+        // u_1 against u_0 from below and from above, and u_2 against u_1
+        14 => site.well_radius = 29,
+        15 => site.well_radius = 30,
+        16 => site = with_radii(before, 1700, 2600),
+        17 => site = with_radii(before, 1701, 2600),
         18 => site.radii[1] = 500,
         19 => site.radii[1] = 501,
-        20 => site.radii[1] = 1300,
-        21 => site.radii[1] = 1301,
+        20 => site.radii[1] = 4900,
+        21 => site.radii[1] = 4901,
         22 => site.intake = 9999,
         23 => site.intake = 10000,
         24 => site.screened[0] = 1,
         25 => site.screened[1] = 0,
+        26 => site = with_radii(before, 499, 4900),
+        27 => site = with_radii(before, 500, 1301),
         _ => {}
     }
     site

@@ -81,7 +81,7 @@ fn print_groups(before: Record) {
     print_step(before);
     print_group(before, b"counts", 1, 16);
     print_group(before, b"layers", 2, 21);
-    print_group(before, b"numbers", 3, 25);
+    print_group(before, b"numbers", 3, 27);
     print_group(before, b"unused", 4, 14);
     print_group(before, b"well", 5, 10);
     print_group(before, b"conductances", 6, 22);

@@ -1,19 +1,20 @@
--- The terms of a logarithm's series, and how large the numbers of the rules are.
-use mathlib.Core.Path.{_≡_, sym, ap, _∙_}
+-- The terms of a logarithm's series, the two cases of a logarithm, and how large the numbers of the rules are.
+use mathlib.Core.Path.{_≡_, refl, sym, ap, _∙_}
 use mathlib.Core.Bool.{or-true}
 use lib.Dec.{eqb}
 use Rattle.limits.specs.Limits.{midsectionFactor}
 use Rattle.words.specs.Fitted.{fitted}
 use Rattle.words.specs.Laws.{fitted-word}
 use Rattle.words.specs.declared.Quotient.the-variants.{Word}
-use borrow.Author.Tests.{eq-eqb, ne-eqb}
-use Prim.Native.Nat.{ℕ, suc, _+_, _*_, _-_, _/_, _^_, _<_, _≤_}
+use borrow.Author.Tests.{eq-eqb, ne-eqb, lt-ltb, le-ltb}
+use Prim.Native.Nat.{ℕ, zero, suc, _+_, _*_, _-_, _/_, _^_, _<_, _≤_}
 use mir.Syntax.{w64}
 use mir.Val.{Fits}
-use native.Mathlib.Nat.{lt-of-le-of-lt, mul-assoc, mul-pos, pow-succ', pow-zero, mul-one, div-le-self, div-le-of-le-mul, mul-le-mul, div-one, le-div-iff-mul-le}
+use native.Mathlib.Decide.{decLt}
+use native.Mathlib.Nat.{le-trans, lt-of-le-of-lt, add-le-add, mul-assoc, mul-pos, pow-succ', pow-zero, mul-one, div-le-self, div-le-of-le-mul, div-mul-le-self, div-eq-of-eq-mul-left, mul-le-mul, div-one, le-div-iff-mul-le}
 use native.Mathlib.Numerals.{add-one}
 use native.Mathlib.Omega.{arith}
-use Rattle.geometry.specs.Geometry.{terms, ratio, logarithm, area, vertical}
+use Rattle.geometry.specs.Geometry.{terms, ratio, seriesLogarithm, logarithmOfThree, logarithm, area, vertical}
 
 -- the term numbered k, and those after it
 pub one-more : (w k t : ℕ) → k < 16 → terms (16 - k) w k t ≡ t / (2 * k + 1) + terms (16 - (k + 1)) w (k + 1) (t * w / 2 ^ 30)
@@ -35,7 +36,7 @@ unfolding terms
 first-term n w z = omega (arith, div-one z)
 
 -- z is at most a half of 2^30
-pub ratio-small : (p q : ℕ) → q < p → p ≤ midsectionFactor * q → ratio p q ≤ 2 ^ 29
+pub ratio-small : (p q : ℕ) → q < p → p ≤ 3 * q → ratio p q ≤ 2 ^ 29
 unfolding ratio
 ratio-small p q h r = div-le-of-le-mul (p + q) (omega arith)
 
@@ -44,10 +45,63 @@ ratio-above : (p q : ℕ) → q < p → p ≤ 4000000 → 0 < ratio p q
 unfolding ratio
 ratio-above p q h r = le-div-iff-mul-le {k = p + q} {x = 1} {y = (p - q) * 2 ^ 30} (omega arith) .1 (omega arith)
 
--- so Λ is above 0
-pub logarithm-above : (p q : ℕ) → q < p → p ≤ 4000000 → 0 < logarithm p q
+-- so the series' Λ is above 0
+pub series-above : (p q : ℕ) → q < p → p ≤ 4000000 → 0 < seriesLogarithm p q
+unfolding seriesLogarithm
+series-above p q h r = omega (arith, ratio-above p q h r, first-term 15 (ratio p q * ratio p q / 2 ^ 30) (ratio p q))
+
+-- ---- at p = 3q z is 2^29, and Λ the constant
+three-ratio : (q : ℕ) → 0 < q → ratio (3 * q) q ≡ 2 ^ 29
+unfolding ratio
+three-ratio q h = div-eq-of-eq-mul-left (omega arith) (omega arith)
+
+largest : 2 * terms 16 (2 ^ 29 * 2 ^ 29 / 2 ^ 30) 0 (2 ^ 29) ≡ logarithmOfThree
+unfolding terms
+largest = refl
+
+pub series-at-three : (q : ℕ) → 0 < q → seriesLogarithm (3 * q) q ≡ logarithmOfThree
+unfolding seriesLogarithm
+series-at-three q h = rw (three-ratio q h) largest
+
+-- at p = q z is 0, and so is Λ
+zero-ratio : (n : ℕ) → ratio n n ≡ 0
+unfolding ratio
+zero-ratio n = let h : ratio n n ≤ 0 = div-le-of-le-mul (n + n) (omega arith) in omega arith
+
+pub series-at-one : (n : ℕ) → seriesLogarithm n n ≡ 0
+unfolding seriesLogarithm terms
+series-at-one n = rw (zero-ratio n)
+
+-- ---- the terms rise with z, so no Λ of the series is above that constant
+quotient-rises : (d : ℕ) {a b : ℕ} → 0 < d → a ≤ b → a / d ≤ b / d
+quotient-rises d {a} {b} hd h = le-div-iff-mul-le {k = d} {x = a / d} {y = b} hd .1 (le-trans (div-mul-le-self a d) h)
+
+terms-rise : (n k : ℕ) {w w′ t t′ : ℕ} → w ≤ w′ → t ≤ t′ → terms n w k t ≤ terms n w′ k t′
+unfolding terms
+terms-rise zero k hw ht = omega arith
+terms-rise (suc n) k hw ht = add-le-add (quotient-rises (2 * k + 1) (omega arith) ht) (terms-rise n (suc k) hw (quotient-rises (2 ^ 30) (omega arith) (mul-le-mul ht hw)))
+
+pub series-most : (p q : ℕ) → q < p → p ≤ 3 * q → seriesLogarithm p q ≤ logarithmOfThree
+unfolding seriesLogarithm
+series-most p q h r =
+    let z : ratio p q ≤ 2 ^ 29 = ratio-small p q h r in
+    let rise = terms-rise 16 0 (quotient-rises (2 ^ 30) (omega arith) (mul-le-mul z z)) z in
+    omega (arith, rise, largest)
+
+-- ---- the two cases of Λ
+pub logarithm-near : (p q : ℕ) → p ≤ 3 * q → logarithm p q ≡ seriesLogarithm p q
 unfolding logarithm
-logarithm-above p q h r = omega (arith, ratio-above p q h r, first-term 15 (ratio p q * ratio p q / 2 ^ 30) (ratio p q))
+logarithm-near p q h = rw (le-ltb (3 * q) p h)
+
+pub logarithm-far : (p q : ℕ) → 3 * q < p → logarithm p q ≡ logarithmOfThree + seriesLogarithm p (3 * q)
+unfolding logarithm
+logarithm-far p q h = rw (lt-ltb (3 * q) p h)
+
+pub logarithm-most : (p q : ℕ) → q < p → p ≤ midsectionFactor * q → logarithm p q ≤ 2359251896
+logarithm-most p q h r = elim (decLt (3 * q) p) [
+  | yes u ↦ omega (arith, logarithm-far p q u, series-most p (3 * q) u (omega arith))
+  | no u ↦ omega (arith, logarithm-near p q (omega arith), series-most p q h (omega arith))
+]
 
 -- a product of two bounded factors is bounded, and fits a word
 pub product-at-most : (m n : ℕ) {a b : ℕ} → a ≤ m → b ≤ n → a * b ≤ m * n

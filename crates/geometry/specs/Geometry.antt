@@ -2,7 +2,7 @@
 -- Lengths are mm, areas mm², conductivities nm/s, conductances C 10^-12 m²/s, storages S nl per m of drawdown.
 use mathlib.Core.Bool.{cond, _||_}
 use Prim.Native.Nat.{ℕ, zero, suc, _+_, _*_, _-_, _/_, _^_}
-use lib.Dec.{eqb}
+use lib.Dec.{ltb, eqb}
 
 -- n terms of Λ's series from the one numbered k on: t_k/(2k+1), with t_(k+1) = t_k×w/2^30
 unfoldable pub terms : ℕ → ℕ → ℕ → ℕ → ℕ
@@ -13,9 +13,17 @@ terms (suc n) w k t = t / (2 * k + 1) + terms n w (suc k) (t * w / 2 ^ 30)
 unfoldable pub ratio : ℕ → ℕ → ℕ
 ratio p q = (p - q) * 2 ^ 30 / (p + q)
 
--- Λ(p, q), which stands for ln(p/q) × 2^30, for q < p as far apart as rule 4 lets them be: twice the sum of its terms 0 to 15
+-- Λ(p, q), which stands for ln(p/q) × 2^30, for q < p ≤ 3q: twice the sum of its terms 0 to 15
+unfoldable pub seriesLogarithm : ℕ → ℕ → ℕ
+seriesLogarithm p q = 2 * terms 16 (ratio p q * ratio p q / 2 ^ 30) 0 (ratio p q)
+
+-- ln(3) × 2^30, as document 02 prints it (N4): Λ(3q, q) of every q above 0
+abbrev pub logarithmOfThree : ℕ
+logarithmOfThree = 1179625948
+
+-- Λ(p, q) for q < p as far apart as rule 4 lets them be (N4), up to 9q: above 3q it is 1179625948 + Λ(p, 3q), at 3q and below the series
 unfoldable pub logarithm : ℕ → ℕ → ℕ
-logarithm p q = 2 * terms 16 (ratio p q * ratio p q / 2 ^ 30) 0 (ratio p q)
+logarithm p q = cond (ltb (3 * q) p) (logarithmOfThree + seriesLogarithm p (3 * q)) (seriesLogarithm p q)
 
 -- area A_j of column j from its outer radius R_j and its inner radius R_(j−1); A_0 is that of R_0 and 0
 unfoldable pub area : ℕ → ℕ → ℕ

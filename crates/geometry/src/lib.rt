@@ -3,10 +3,13 @@ use words::Quotient;
 use words::divide::quotient;
 use words::divide::quotient_word;
 ghost use mathlib.Core.Path.{_≡_};
-ghost use Prim.Native.Nat.{_+_, _*_, _<_, _≤_, _^_};
+ghost use Prim.Native.Nat.{ℕ, _+_, _*_, _<_, _≤_, _^_};
 ghost use Rattle.limits.specs.Limits.{midsectionFactor};
 ghost use Rattle.words.specs.Fitted.{fitted};
-ghost use Rattle.geometry.specs.Geometry.{terms, logarithm, area, horizontal, vertical, unconfinedStorage, confinedStorage, wellStorage};
+ghost use Rattle.geometry.specs.Geometry.{terms, seriesLogarithm, logarithmOfThree, logarithm, area, horizontal, vertical, unconfinedStorage, confinedStorage, wellStorage};
+
+// Λ(3q, q) of every q above 0.
+const LOGARITHM_OF_THREE: u64 = 1179625948;
 
 // The sum of the terms of a logarithm's series, from z and w.
 fn series(z: u64, w: u64) -> u64
@@ -24,14 +27,31 @@ fn series(z: u64, w: u64) -> u64
     sum
 }
 
+// Λ(p, q) for p up to 3q, by the series.
+fn series_logarithm(p: u64, q: u64) -> u64
+    requires { ⌜ (q < p) × (p ≤ 3 * q) × (p ≤ 4000000) ⌝ }
+    ensures { λ r. ⌜ (r ≡ seriesLogarithm p q) × (0 < r) × (r ≤ logarithmOfThree) ⌝ }
+{
+    let z = (p - q) * 1073741824 / (p + q);
+    2 * series(z, z * z / 1073741824)
+}
+
 // Λ(p, q). It is above 0, so that it divides.
 pub fn logarithm(p: u64, q: u64) -> u64
     requires { ⌜ (q < p) × (p ≤ midsectionFactor * q) × (p ≤ 4000000) ⌝ }
     ensures { λ r. ⌜ (r ≡ logarithm p q) × (0 < r) ⌝ }
 {
-    let z = (p - q) * 1073741824 / (p + q);
-    2 * series(z, z * z / 1073741824)
+    if 3 * q < p {
+        return LOGARITHM_OF_THREE + series_logarithm(p, 3 * q);
+    }
+    series_logarithm(p, q)
 }
+
+// The two cases of Λ meet: at p = 3q the series gives the constant, and the case above it adds 0. And no Λ is over twice the constant. A theorem, and
+// no code.
+pub fn logarithm_cases()
+    ensures { λ r. ⌜ ((q : ℕ) → 0 < q → (seriesLogarithm (3 * q) q ≡ logarithmOfThree) × (seriesLogarithm (3 * q) (3 * q) ≡ 0)) × ((p q : ℕ) → q < p → p ≤ midsectionFactor * q → logarithm p q ≤ 2359251896) ⌝ }
+{}
 
 // Area of a column between two radii, mm²: below 2^44 for radii in their limits.
 pub fn area(outer: u64, inner: u64) -> u64

@@ -1,4 +1,4 @@
--- The limits and sizes of document 01, each once and under a name, in the order of its sections.
+-- The limits and sizes of document 01, as document 02 changes them, each once and under a name, in the order of its sections.
 use mathlib.Core.Bool.{Bool, _&&_}
 use Prim.Native.Nat.{ℕ, _*_, _^_}
 use lib.Dec.{leb, eqb}
@@ -103,9 +103,9 @@ coefficientLimits c = leb c (10 ^ 12)
 abbrev pub repeatLimits : ℕ → Bool
 repeatLimits n = between 1 (10 ^ 6) n
 
--- ---- rule 4: how many times as large as the one before it twice a midsection radius may be
+-- ---- rule 4: how many times as large as the one before it twice a midsection radius may be (document 02, N4)
 abbrev pub midsectionFactor : ℕ
-midsectionFactor = 3
+midsectionFactor = 9
 
 -- ---- coefficients (6 and 14)
 -- C of a face, 10^-12 m²/s

@@ -1,4 +1,5 @@
-// The limits and sizes of document 01, each once and under a name, in the order of its sections. What the definitions call them is in specs/.
+// The limits and sizes of document 01, as document 02 changes them, each once and under a name, in the order of its sections. What the definitions
+// call them is in specs/.
 
 // The scenario text: bytes, and digits of a number.
 pub const TEXT_LIMIT: usize = 65536;
@@ -48,7 +49,7 @@ pub const COEFFICIENT_LIMIT: u64 = 1_000_000_000_000;
 pub const REPEAT_LIMIT: u64 = 1_000_000;
 
 // Rule 4: how many times as large as the one before it twice a midsection radius may be.
-pub const MIDSECTION_FACTOR: u64 = 3;
+pub const MIDSECTION_FACTOR: u64 = 9;
 
 // C of a face, 10^-12 m²/s, and S of a cell, nl per m of drawdown.
 pub const CONDUCTANCE_LIMIT: u64 = 1_000_000_000_000_000;

@@ -103,8 +103,14 @@ const LAYER_NUMBERS: [Change; 21] = [
     |record| record.storage[1] = 1_000_001,
 ];
 
+/// R_1 and R_2.
+fn set_radii(record: &mut Record, first: u64, second: u64) {
+    record.radii[0] = first;
+    record.radii[1] = second;
+}
+
 /// Limits of the radii and of the well's numbers; rules 4 and 5.
-const NUMBERS: [Change; 25] = [
+const NUMBERS: [Change; 27] = [
     |record| record.radii[49] = 2_000_000,
     |record| record.radii[49] = 2_000_001,
     |record| record.well_radius = 9,
@@ -118,18 +124,21 @@ const NUMBERS: [Change; 25] = [
     |record| record.friction = 0,
     |record| record.friction = 1_000_000,
     |record| record.friction = 1_000_001,
-    |record| record.well_radius = 99,
-    |record| record.well_radius = 101,
-    |record| record.radii[0] = 499,
-    |record| record.radii[0] = 501,
+    // u_1 against u_0 from below and from above, and u_2 against u_1.
+    |record| record.well_radius = 29,
+    |record| record.well_radius = 30,
+    |record| set_radii(record, 1700, 2600),
+    |record| set_radii(record, 1701, 2600),
     |record| record.radii[1] = 500,
     |record| record.radii[1] = 501,
-    |record| record.radii[1] = 1300,
-    |record| record.radii[1] = 1301,
+    |record| record.radii[1] = 4900,
+    |record| record.radii[1] = 4901,
     |record| record.intake_depth = 9999,
     |record| record.intake_depth = 10_000,
     |record| record.screened[0] = 1,
     |record| record.screened[1] = 0,
+    |record| set_radii(record, 499, 4900),
+    |record| set_radii(record, 500, 1301),
 ];
 
 /// Slots of the scenario's numbers that no layer, column or coefficient uses.

@@ -1,4 +1,4 @@
-//! Geometry to coefficients: one function a rule of document 01; every division rounds down.
+//! Geometry to coefficients: one function a rule of document 01, Λ with the wider range of document 02 (N4); every division rounds down.
 
 /// π × 2^30, rounded as document 01 prints it.
 const PI: u128 = 3_373_259_426;
@@ -6,14 +6,21 @@ const PI: u128 = 3_373_259_426;
 pub const TWO_PI: u128 = 6_746_518_852;
 /// Terms of the series for Λ.
 const TERMS: u64 = 16;
+/// The series gives Λ(p, q) for p up to this many times q.
+pub const SERIES_RATIO: u64 = 3;
+/// ln 3 × 2^30, as document 02 prints it.
+pub const LOGARITHM_OF_3: u64 = 1_179_625_948;
 
-/// Λ(p, q): ln(p/q) × 2^30 for q < p ≤ 3q, by the written series.
+/// Λ(p, q): ln(p/q) × 2^30 for q < p ≤ 9q. By the written series for p up to 3q; above that Λ(p, 3q) and the logarithm of 3.
 pub fn lambda(p: u64, q: u64) -> u128 {
+    if p > SERIES_RATIO * q {
+        return u128::from(LOGARITHM_OF_3) + lambda(p, SERIES_RATIO * q);
+    }
     let (p, q) = (u128::from(p), u128::from(q));
     u128::from(series((((p - q) << 30) / (p + q)) as u64))
 }
 
-/// Λ of every pair with a z, below 2^30. No product passes a word.
+/// Λ of every pair with a z, below 2^30, that the series is for. No product passes a word.
 pub fn series(z: u64) -> u64 {
     let w = (z * z) >> 30;
     let mut term = z;

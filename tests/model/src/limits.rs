@@ -1,4 +1,4 @@
-//! The limits of document 01, each under one name.
+//! The limits of document 01, as document 02 changes them, each under one name.
 
 use std::ops::RangeInclusive;
 
@@ -39,8 +39,8 @@ pub const SCREEN_LOSS: RangeInclusive<u64> = 0..=1_000_000_000_000;
 /// Repeats of a pumping entry.
 pub const REPEATS: RangeInclusive<u64> = 1..=1_000_000;
 
-/// Rule 4: u_(j+1) is at most this many times u_j.
-pub const WIDEST_RATIO: u64 = 3;
+/// Rule 4: u_(j+1) is at most this many times u_j (document 02, N4).
+pub const WIDEST_RATIO: u64 = 9;
 
 /// Largest conductance C, 10^-12 m²/s.
 pub const CONDUCTANCE: u64 = 1_000_000_000_000_000;

@@ -1,10 +1,44 @@
 //! Λ held against the true logarithm, worked in floats.
 
-use crate::geometry::lambda;
+use crate::geometry::{lambda, SERIES_RATIO};
 use crate::limits::{COLUMN_RADIUS, WIDEST_RATIO};
 
-/// How far Λ may be from ln(p/q) × 2^30.
-pub const TOLERANCE: f64 = 64.0;
+/// A range of p/q.
+#[derive(Clone, Copy, PartialEq, Eq, Debug)]
+pub enum Range {
+    /// q < p ≤ 3q.
+    UpTo3,
+    /// 3q < p ≤ 9q.
+    Above3,
+}
+
+impl Range {
+    pub const BOTH: [Range; 2] = [Range::UpTo3, Range::Above3];
+
+    /// The range of a pair.
+    pub fn of(p: u64, q: u64) -> Range {
+        if p > SERIES_RATIO * q {
+            Range::Above3
+        } else {
+            Range::UpTo3
+        }
+    }
+
+    pub fn name(self) -> &'static str {
+        match self {
+            Range::UpTo3 => "up to 3q",
+            Range::Above3 => "above 3q",
+        }
+    }
+
+    /// How far Λ may be from ln(p/q) × 2^30.
+    pub fn tolerance(self) -> f64 {
+        match self {
+            Range::UpTo3 => 64.0,
+            Range::Above3 => 128.0,
+        }
+    }
+}
 
 /// The largest doubled midsection radius, mm.
 pub const LARGEST: u64 = 2 * *COLUMN_RADIUS.end();
@@ -19,8 +53,8 @@ pub fn in_range(p: u64, q: u64) -> bool {
     q < p && p <= LARGEST && p <= WIDEST_RATIO * q
 }
 
-/// The worst of the lines held so far.
-#[derive(Default)]
+/// The worst of the lines of a range held so far.
+#[derive(Clone, Copy, Default)]
 pub struct Worst {
     pub lines: u64,
     pub difference: f64,
@@ -28,11 +62,40 @@ pub struct Worst {
     pub q: u64,
 }
 
+/// What was held so far, range by range.
+#[derive(Default)]
+pub struct Held([Worst; 2]);
+
+impl Held {
+    pub fn in_range(&self, range: Range) -> Worst {
+        self.0[range as usize]
+    }
+
+    pub fn lines(&self) -> u64 {
+        self.0.iter().map(|worst| worst.lines).sum()
+    }
+
+    /// Holds a value against the true logarithm.
+    pub fn hold(&mut self, p: u64, q: u64, value: u64) -> Result<(), String> {
+        let range = Range::of(p, q);
+        let difference = (value as f64 - true_logarithm(p, q)).abs();
+        if difference > range.tolerance() {
+            return Err(format!("{difference:.1} from the true logarithm"));
+        }
+        let worst = &mut self.0[range as usize];
+        worst.lines += 1;
+        if difference > worst.difference {
+            (worst.difference, worst.p, worst.q) = (difference, p, q);
+        }
+        Ok(())
+    }
+}
+
 /// Works on lines `p q` (answered with Λ added) and `p q Λ` (held against the rule and the true logarithm).
-/// Gives the answers and the worst of the held lines, or what is wrong.
-pub fn check(input: &str) -> Result<(Vec<String>, Worst), String> {
+/// Gives the answers and what was held, or what is wrong.
+pub fn check(input: &str) -> Result<(Vec<String>, Held), String> {
     let mut answers = Vec::new();
-    let mut worst = Worst::default();
+    let mut held = Held::default();
     for (above, line) in input.lines().enumerate() {
         let wrong = |what: &str| format!("logarithm, line {}: {what}: {line}", above + 1);
         let numbers: Option<Vec<u64>> = line.split_whitespace().map(|word| word.parse().ok()).collect();
@@ -45,30 +108,15 @@ pub fn check(input: &str) -> Result<(Vec<String>, Worst), String> {
         match numbers.get(2) {
             None => answers.push(format!("{p} {q} {rule}")),
             Some(&value) => {
-                worst.hold(p, q, value).map_err(|what| wrong(&what))?;
+                held.hold(p, q, value).map_err(|what| wrong(&what))?;
                 if value != rule {
                     return Err(wrong(&format!("the rule gives {rule}")));
                 }
             }
         }
     }
-    if answers.is_empty() && worst.lines == 0 {
+    if answers.is_empty() && held.lines() == 0 {
         return Err("logarithm: no lines".to_string());
     }
-    Ok((answers, worst))
-}
-
-impl Worst {
-    /// Holds a value against the true logarithm.
-    pub fn hold(&mut self, p: u64, q: u64, value: u64) -> Result<(), String> {
-        let difference = (value as f64 - true_logarithm(p, q)).abs();
-        if difference > TOLERANCE {
-            return Err(format!("{difference:.1} from the true logarithm"));
-        }
-        self.lines += 1;
-        if difference > self.difference {
-            (self.difference, self.p, self.q) = (difference, p, q);
-        }
-        Ok(())
-    }
+    Ok((answers, held))
 }

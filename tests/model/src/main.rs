@@ -1,6 +1,7 @@
 //! The command `model`: what the reference model says of a scenario on standard input.
 
 use reference_model::geometry::lambda;
+use reference_model::logarithm::Range;
 use reference_model::{changes, listing, logarithm, report, scenarios, worst};
 use std::io::{self, BufWriter, Read, Write};
 use std::process::ExitCode;
@@ -47,8 +48,13 @@ fn run(words: &[&str]) -> Result<(), String> {
         }
         ["logarithm"] => logarithms(&input()?, &mut out),
         ["worst", count] => {
-            let pairs = worst::worst(worst::RATIOS, whole("COUNT", count)? as usize);
-            written(pairs.iter().try_for_each(|pair| writeln!(out, "{} {} {}", pair.p, pair.q, lambda(pair.p, pair.q))))
+            let count = whole("COUNT", count)? as usize;
+            for range in Range::BOTH {
+                for pair in worst::worst(range, worst::RATIOS, count) {
+                    written(writeln!(out, "{} {} {}", pair.p, pair.q, lambda(pair.p, pair.q)))?;
+                }
+            }
+            Ok(())
         }
         _ => Err(format!("bad arguments\n{USAGE}")),
     }?;
@@ -72,20 +78,27 @@ fn whole(name: &str, word: &str) -> Result<u64, String> {
     number.ok_or_else(|| format!("{name} is no whole number of 64 bits: {word}\n{USAGE}"))
 }
 
-/// Answers lines `p q`, holds lines `p q value`, and says the worst of those held.
+/// Answers lines `p q`, holds lines `p q value`, and says the worst of those held in each range.
 fn logarithms(bytes: &[u8], out: &mut impl Write) -> Result<(), String> {
     let input = std::str::from_utf8(bytes).map_err(|_| "logarithm: standard input is no text".to_string())?;
-    let (answers, worst) = logarithm::check(input)?;
+    let (answers, held) = logarithm::check(input)?;
     for answer in answers {
         written(writeln!(out, "{answer}"))?;
     }
-    if worst.lines > 0 {
-        let (lines, p, q) = (worst.lines, worst.p, worst.q);
-        written(writeln!(
-            out,
-            "logarithm: {lines} lines held, the worst {:.1} from the true logarithm at {p} {q}",
-            worst.difference
-        ))?;
+    for range in Range::BOTH {
+        let worst = held.in_range(range);
+        if worst.lines > 0 {
+            written(writeln!(
+                out,
+                "logarithm {}: {} lines held, the worst {:.1} from the true logarithm of the allowed {}, at {} {}",
+                range.name(),
+                worst.lines,
+                worst.difference,
+                range.tolerance(),
+                worst.p,
+                worst.q
+            ))?;
+        }
     }
     Ok(())
 }

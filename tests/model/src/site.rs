@@ -103,7 +103,7 @@ impl Site {
             && self.screen_losses.iter().all(|loss| limits::SCREEN_LOSS.contains(loss))
     }
 
-    /// Rule 4: the radii rise from R_0 on, and no u_(j+1) is over three times u_j.
+    /// Rule 4: the radii rise from R_0 on, and no u_(j+1) is over nine times u_j.
     pub fn radii_allowed(&self) -> bool {
         (0..self.columns()).all(|j| {
             self.radius(j) < self.radius(j + 1)

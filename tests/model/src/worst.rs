@@ -1,12 +1,11 @@
 //! The pairs of which Λ is farthest from the true logarithm, in its whole range.
 //!
-//! Λ(p, q) depends on z = ⌊(p − q) × 2^30 / (p + q)⌋ alone and is never above the true logarithm, since every step of it rounds
-//! down. The true logarithm rises with p/q. So the pair with the largest p/q that has a z is the farthest off of all that have it,
-//! and it is enough to try every z.
+//! For p up to 3q, Λ(p, q) depends on z = ⌊(p − q) × 2^30 / (p + q)⌋ alone, above that on the z of p and 3q, and it is never above
+//! the true logarithm: the printed logarithm of 3 is not, and every step of the series rounds down. The true logarithm rises with
+//! p/q. So of all pairs of a range that have a z the one with the largest p/q is the farthest off, and it is enough to try every z.
 
-use crate::geometry::series;
-use crate::limits::WIDEST_RATIO;
-use crate::logarithm::{true_logarithm, LARGEST};
+use crate::geometry::{series, LOGARITHM_OF_3, SERIES_RATIO};
+use crate::logarithm::{true_logarithm, Range, LARGEST};
 use std::ops::RangeInclusive;
 
 const ONE: u64 = 1 << 30;
@@ -14,7 +13,25 @@ const ONE: u64 = 1 << 30;
 /// Every z of q < p ≤ 3q.
 pub const RATIOS: RangeInclusive<u64> = 1..=LAST;
 /// The z of p = 3q, and of no other pair.
-const LAST: u64 = ONE * (WIDEST_RATIO - 1) / (WIDEST_RATIO + 1);
+const LAST: u64 = ONE * (SERIES_RATIO - 1) / (SERIES_RATIO + 1);
+
+impl Range {
+    /// The series of a pair is that of p and this many times q.
+    fn times(self) -> u64 {
+        match self {
+            Range::UpTo3 => 1,
+            Range::Above3 => SERIES_RATIO,
+        }
+    }
+
+    /// Λ of the range's pairs that have a z.
+    fn lambda(self, z: u64) -> u64 {
+        match self {
+            Range::UpTo3 => series(z),
+            Range::Above3 => LOGARITHM_OF_3 + series(z),
+        }
+    }
+}
 
 /// A pair in lowest terms, and how far its Λ is from the true logarithm.
 #[derive(Clone, Copy, PartialEq, Debug)]
@@ -24,17 +41,17 @@ pub struct Pair {
     pub difference: f64,
 }
 
-/// The farthest pair of each of the `count` z in a range of them whose farthest pairs are the farthest, the farthest first.
-pub fn worst(ratios: RangeInclusive<u64>, count: usize) -> Vec<Pair> {
+/// Of a range of p/q the farthest pair of each of the `count` z, among some, whose farthest pairs are the farthest, the farthest first.
+pub fn worst(range: Range, ratios: RangeInclusive<u64>, count: usize) -> Vec<Pair> {
     let mut worst: Vec<Pair> = Vec::new();
     let mut least = 0.0;
     for z in ratios {
         // No pair that has this z reaches the next one's ratio.
-        let (above, below) = (ONE + z + 1, ONE - z - 1);
-        if true_logarithm(above, below) - series(z) as f64 <= least {
+        let (above, below) = (range.times() * (ONE + z + 1), ONE - z - 1);
+        if true_logarithm(above, below) - range.lambda(z) as f64 <= least {
             continue;
         }
-        let Some(pair) = farthest(z).filter(|pair| pair.difference > least) else { continue };
+        let Some(pair) = farthest(range, z).filter(|pair| pair.difference > least) else { continue };
         let place = worst.partition_point(|other| other.difference >= pair.difference);
         worst.insert(place, pair);
         worst.truncate(count);
@@ -45,11 +62,12 @@ pub fn worst(ratios: RangeInclusive<u64>, count: usize) -> Vec<Pair> {
     worst
 }
 
-/// The pair with the largest p/q of those that have a z, if there is one.
-pub fn farthest(z: u64) -> Option<Pair> {
-    let (p, q) = if z == LAST { (WIDEST_RATIO, 1) } else { largest_below(ONE + z + 1, ONE - z - 1) };
-    let has_z = p * (ONE - z) >= q * (ONE + z);
-    has_z.then(|| Pair { p, q, difference: true_logarithm(p, q) - series(z) as f64 })
+/// The pair with the largest p/q of a range's that have a z, if there is one.
+pub fn farthest(range: Range, z: u64) -> Option<Pair> {
+    let times = range.times();
+    let (p, q) = if z == LAST { (times * SERIES_RATIO, 1) } else { largest_below(times * (ONE + z + 1), ONE - z - 1) };
+    let has_z = p * (ONE - z) >= times * q * (ONE + z);
+    has_z.then(|| Pair { p, q, difference: true_logarithm(p, q) - range.lambda(z) as f64 })
 }
 
 /// The largest p/q below a ratio over 1 with p within its limit. Between two neighbours, p/q below the ratio and r/s not below it,

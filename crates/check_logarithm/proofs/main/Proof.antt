@@ -35,6 +35,9 @@ print-ratios-requires-2 c κs = omega arith
 print-ratios-requires-3 : tie.Need-print-ratios-requires-3 Inv-loop μ-loop
 print-ratios-requires-3 c κs = omega arith
 
+print-ratios-requires-4 : tie.Need-print-ratios-requires-4 Inv-loop μ-loop
+print-ratios-requires-4 c κs = omega arith
+
 print-worst-requires : tie.Need-print-worst-requires Inv-loop μ-loop
 print-worst-requires c κs = search needs
 
@@ -55,5 +58,6 @@ main-spec =
     loop-again
     print-ratios-requires-2
     print-ratios-requires-3
+    print-ratios-requires-4
     print-worst-requires
     returns)

@@ -6,10 +6,10 @@ use Rattle.check_logarithm.proofs.print_worst.Statement.{statement}
 use Rattle.check_logarithm.proofs.print_worst.Tie as tie
 
 abbrev Inv-loop : tie.InvT-loop
-Inv-loop k₀ k = k ≤ 200
+Inv-loop k₀ k = k ≤ 400
 
 abbrev μ-loop : tie.MeasureT-loop
-μ-loop k₀ k = 200 - k
+μ-loop k₀ k = 400 - k
 
 loop-holds : tie.Need-loop-holds Inv-loop μ-loop
 loop-holds c = omega arith

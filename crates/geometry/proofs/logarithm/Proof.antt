@@ -1,51 +1,50 @@
--- `geometry::logarithm`: z is at most 2^29 and above 0.
-use mathlib.Core.Path.{_≡_, ap}
-use Prim.Native.Nat.{ℕ, _*_, _^_, _≤_, _<_}
-use native.Mathlib.Nat.{div-le-of-le-mul}
-use native.Mathlib.Omega.{arith}
-use Rattle.geometry.specs.Geometry.{ratio, logarithm}
-use Rattle.geometry.proofs.Laws.{ratio-small, logarithm-above, square-at-most}
+-- `geometry::logarithm`: past 3q the series goes on from there, where p is at most 3 times as large again.
+use mathlib.Core.Path.{_≡_, sym, ap, _∙_}
+use Prim.Native.Nat.{_+_}
 use borrow.Author.Needs.{needs}
+use native.Mathlib.Omega.{arith}
+use Rattle.geometry.specs.Geometry.{logarithmOfThree, logarithm}
+use Rattle.geometry.proofs.Laws.{logarithm-near, logarithm-far}
 use Rattle.geometry.proofs.logarithm.Statement.{statement}
 use Rattle.geometry.proofs.logarithm.Tie as tie
-use Rattle.geometry.proofs.logarithm.Reads as reads
-use Rattle.geometry.proofs.logarithm.Lts as lts
-use Rattle.geometry.proofs.series.Reads as series-reads
 
-sub-z : tie.Need-sub-z
-sub-z c = search needs
+mul-if1 : tie.Need-mul-if1
+mul-if1 c = search needs
 
-mul-z : tie.Need-mul-z
-mul-z c = search needs
+mul-series-logarithm : tie.Need-mul-series-logarithm
+mul-series-logarithm c = search needs
 
-add-z : tie.Need-add-z
-add-z c = search needs
+series-logarithm-requires : tie.Need-series-logarithm-requires
+series-logarithm-requires c κs = omega arith
 
-div-z : tie.Need-div-z
-div-z c = search needs
-
-mul-series : tie.Need-mul-series
-unfolding ratio
-mul-series c = record { fits = omega (arith, square-at-most (2 ^ 29) (ratio-small (c .args .p) (c .args .q) (omega arith) (omega arith))) }
-
-series-requires : tie.Need-series-requires
-unfolding ratio
-series-requires c κs =
-    let h : ratio (c .args .p) (c .args .q) ≤ 2 ^ 29 = ratio-small (c .args .p) (c .args .q) (omega arith) (omega arith) in
-    (h, div-le-of-le-mul (2 ^ 30) (omega (arith, square-at-most (2 ^ 29) h)))
-
-mul-result : tie.Need-mul-result
-mul-result c = search needs
-
-above : {n p q : ℕ} → n ≡ logarithm p q → q < p → p ≤ 4000000 → 0 < n
-above {n} {p} {q} e h r = omega (arith, logarithm-above p q h r)
+add-result : tie.Need-add-result
+add-result c = search needs
 
 returns : tie.Need-returns
-unfolding logarithm ratio
 returns c =
-    let e : 2 * c .series .result ≡ logarithm (c .before .args .p) (c .before .args .q) = ap (λ n. 2 * n) (c .series .ensures .0) in
-    (e, above e (omega arith) (omega arith))
+    let p = c .before .before .args .p in
+    let q = c .before .before .args .q in
+    let far : logarithmOfThree + c .series-logarithm .result ≡ logarithm p q = ap (λ n. logarithmOfThree + n) (c .series-logarithm .ensures .0) ∙ sym (logarithm-far p q (omega arith)) in
+    (far, omega arith)
+
+series-logarithm-requires-2 : tie.Need-series-logarithm-requires-2
+series-logarithm-requires-2 c κs = omega arith
+
+returns-2 : tie.Need-returns-2
+returns-2 c =
+    let p = c .before .before .args .p in
+    let q = c .before .before .args .q in
+    let near : c .series-logarithm2 .result ≡ logarithm p q = c .series-logarithm2 .ensures .0 ∙ sym (logarithm-near p q (omega arith)) in
+    (near, omega arith)
 
 pub logarithm-spec : {M : Type 1} → statement M
 logarithm-spec =
-    tie.close (tie.spec sub-z mul-z add-z div-z mul-series series-requires mul-result returns)
+    tie.close
+    (tie.spec
+    mul-if1
+    mul-series-logarithm
+    series-logarithm-requires
+    add-result
+    returns
+    series-logarithm-requires-2
+    returns-2)

@@ -11,6 +11,16 @@ use crate::random::Random;
 const WORK: u64 = 150_000;
 const MOST_STEPS: u64 = 1_500;
 
+/// How the columns of a grid are drawn: u_(j+1) up to so many times u_j, from some style of `radii` on.
+#[derive(Clone, Copy)]
+struct Widths {
+    times: u64,
+    first_style: u64,
+}
+
+const COMMON: Widths = Widths { times: 3, first_style: NARROW };
+const WIDE: Widths = Widths { times: limits::WIDEST_RATIO, first_style: WIDEST };
+
 /// A scenario of a size with a pumping list.
 pub fn scenario(random: &mut Random, layers: usize, columns: usize) -> Draft {
     let mut draft = grid(random, layers, columns);
@@ -18,10 +28,22 @@ pub fn scenario(random: &mut Random, layers: usize, columns: usize) -> Draft {
     draft
 }
 
+/// A scenario of a few columns that are as wide as rule 4 allows, or any width.
+pub fn wide(random: &mut Random) -> Draft {
+    let (layers, columns) = (random.between(2, 8) as usize, random.between(2, 6) as usize);
+    let mut draft = softened_grid(random, layers, columns, WIDE);
+    add_pumping(random, &mut draft);
+    draft
+}
+
 /// A grid of a size, without pumping; most allow steps of some µs to some seconds.
 pub fn grid(random: &mut Random, layers: usize, columns: usize) -> Draft {
+    softened_grid(random, layers, columns, COMMON)
+}
+
+fn softened_grid(random: &mut Random, layers: usize, columns: usize, widths: Widths) -> Draft {
     loop {
-        let mut draft = draw_grid(random, layers, columns);
+        let mut draft = draw_grid(random, layers, columns, widths);
         if !random.once_in(12) {
             soften(&mut draft, random.spread(2, 10_000_000));
         }
@@ -73,9 +95,9 @@ fn lowered(number: u64, times: u128) -> u64 {
     (u128::from(number) / times) as u64
 }
 
-fn draw_grid(random: &mut Random, layers: usize, columns: usize) -> Draft {
+fn draw_grid(random: &mut Random, layers: usize, columns: usize, widths: Widths) -> Draft {
     let well_radius = random.spread(10, 5000);
-    let radii = radii(random, well_radius, columns);
+    let radii = radii(random, well_radius, columns, widths);
     let bounds = Bounds::of(well_radius, &radii);
     let mut rows: Vec<[u64; 5]> = (0..layers).map(|above| layer(random, above == 0, &bounds)).collect();
     let screen_share = random.between(1, 6);
@@ -96,19 +118,25 @@ fn draw_grid(random: &mut Random, layers: usize, columns: usize) -> Draft {
     draft
 }
 
-/// Rising radii that rule 4 allows: narrow, growing or as wide as may be.
-fn radii(random: &mut Random, well_radius: u64, columns: usize) -> Vec<u64> {
-    let style = random.between(0, 3);
+/// Styles of `radii`: narrow, growing, as wide as may be, and any width.
+const NARROW: u64 = 0;
+const GROWING: u64 = 1;
+const WIDEST: u64 = 2;
+const ANY_WIDTH: u64 = 3;
+
+/// Rising radii that rule 4 allows.
+fn radii(random: &mut Random, well_radius: u64, columns: usize, widths: Widths) -> Vec<u64> {
+    let style = random.between(widths.first_style, ANY_WIDTH);
     let (mut inner, mut outer) = (well_radius, well_radius);
     let mut radii = Vec::new();
     for column in 0..columns {
-        // u_(j+1) = R_j + R_(j+1) at most 3 u_j = 3 (R_(j-1) + R_j), and room for the columns still to come.
+        // Room for the columns still to come.
         let room = *limits::COLUMN_RADIUS.end() - (columns - 1 - column) as u64;
-        let widest = (3 * inner + 2 * outer).min(room);
+        let widest = widest_radius(inner, outer, widths.times).min(room);
         let next = match style {
-            0 => outer + random.between(1, 5),
-            1 => outer + 1 + outer * random.between(1, 12) / 10,
-            2 => widest,
+            NARROW => outer + random.between(1, 5),
+            GROWING => outer + 1 + outer * random.between(1, 12) / 10,
+            WIDEST => widest,
             _ => random.between(outer + 1, widest),
         };
         inner = outer;
@@ -116,6 +144,11 @@ fn radii(random: &mut Random, well_radius: u64, columns: usize) -> Vec<u64> {
         radii.push(outer);
     }
     radii
+}
+
+/// The largest R_(j+1) after R_(j-1) and R_j for which u_(j+1) = R_j + R_(j+1) is at most so many times u_j = R_(j-1) + R_j.
+pub fn widest_radius(inner: u64, outer: u64, times: u64) -> u64 {
+    times * (inner + outer) - outer
 }
 
 /// What keeps the coefficients of a grid within refusal 6's limits.

@@ -1,8 +1,9 @@
 //! Texts with damage: one of each kind in turn, or several faults at once whose first in order must be named.
 
 use super::accepted;
-use super::draft::{text_of, Draft, INTAKE, SCREENED, STORAGE, THICKNESS};
+use super::draft::{text_of, Draft, INTAKE, RADIUS, SCREENED, STORAGE, THICKNESS};
 use super::Case;
+use crate::limits;
 use crate::random::Random;
 
 const KINDS: u64 = 14;
@@ -49,6 +50,20 @@ pub fn one(random: &mut Random, turn: u64) -> Case {
         _ => ("count-off", count_off(random, &draft), None),
     };
     Case { name: name.to_string(), text, start }
+}
+
+/// A grid of wide columns that ends with one 1 mm wider than rule 4 allows.
+pub fn too_wide(random: &mut Random) -> Case {
+    loop {
+        let mut draft = accepted::wide(random);
+        let last = random.between(1, draft.radii.len() as u64 - 1) as usize;
+        draft.radii.truncate(last + 1);
+        let inner = if last == 1 { draft.well[RADIUS] } else { draft.radii[last - 2] };
+        draft.radii[last] = accepted::widest_radius(inner, draft.radii[last - 1], limits::WIDEST_RATIO) + 1;
+        if limits::COLUMN_RADIUS.contains(&draft.radii[last]) {
+            return Case { name: "too-wide".to_string(), text: draft.text(), start: Some(4) };
+        }
+    }
 }
 
 /// Two or three faults in one text.

@@ -1,4 +1,4 @@
-//! The catalogue of edges: every limit of document 01 that a text can reach,
+//! The catalogue of edges: every limit of document 01, as document 02 changes it, that a text can reach,
 //! at its last accepted and first refused value.
 
 use super::damage::line_replaced;
@@ -22,6 +22,7 @@ pub fn catalogue() -> Vec<Case> {
     edges.conductances();
     edges.storages();
     edges.steps();
+    edges.wide_columns();
     edges.0
 }
 
@@ -91,7 +92,7 @@ impl Edges {
     fn bore_k(&mut self) {
         let k = bore_k();
         self.edit("k", &k, 0, |_| ());
-        self.edit("k-radius-1301", &k, 4, |draft| draft.radii[1] = 1301);
+        self.edit("k-radius-4901", &k, 4, |draft| draft.radii[1] = 4901);
         self.edit("k-intake-10000", &k, 5, |draft| draft.well[INTAKE] = 10_000);
         self.edit("k-intake-17", &k, 0, |draft| draft.well[INTAKE] = 17);
         self.edit("k-intake-16", &k, 0, |draft| draft.well[INTAKE] = 16);
@@ -231,7 +232,7 @@ impl Edges {
         });
     }
 
-    /// Rule 4 at its limits, at the well, in the middle and at the last column.
+    /// Rule 4: radii that rise and do not, and where Λ goes over from its series, at the well, in the middle and at the last column.
     fn radii(&mut self) {
         let draft = plain(100);
         let mut one = |name: &str, start, radii: [u64; 3]| self.edit(name, &draft, start, |d| d.radii = radii.to_vec());
@@ -244,12 +245,12 @@ impl Edges {
         one("last-radius-rises", 0, [300, 700, 701]);
         one("last-radius-equal", 4, [300, 700, 700]);
         one("last-radius-falls", 4, [300, 700, 699]);
-        one("first-widest", 0, [500, 700, 1500]);
-        one("first-too-wide", 4, [501, 700, 1500]);
-        one("middle-widest", 0, [300, 900, 1500]);
-        one("middle-too-wide", 4, [300, 901, 1500]);
-        one("last-widest", 0, [300, 700, 2300]);
-        one("last-too-wide", 4, [300, 700, 2301]);
+        one("first-three-times", 0, [500, 700, 1500]);
+        one("first-over-three-times", 0, [501, 700, 1500]);
+        one("middle-three-times", 0, [300, 900, 1500]);
+        one("middle-over-three-times", 0, [300, 901, 1500]);
+        one("last-three-times", 0, [300, 700, 2300]);
+        one("last-over-three-times", 0, [300, 700, 2301]);
         self.edit("radii-before-screen", &draft, 4, |draft| {
             draft.radii[2] = 1;
             draft.layers[2][SCREENED] = 0;
@@ -377,6 +378,39 @@ impl Edges {
             });
         }
     }
+
+    /// Columns as wide as rule 4 allows, u_(j+1) = 9×u_j, and 1 mm wider: at the well, in the middle and at the last column.
+    fn wide_columns(&mut self) {
+        let k = bore_k();
+        self.edit("k-radius-1301", &k, 0, |draft| draft.radii[1] = 1301);
+        self.edit("k-radius-4900", &k, 0, |draft| draft.radii[1] = 4900);
+        self.edit("k-first-radius-1700", &k, 0, |draft| draft.radii = vec![1700, 2600]);
+        self.edit("k-first-radius-1701", &k, 4, |draft| draft.radii = vec![1701, 2600]);
+        let draft = plain(100);
+        let mut one = |name: &str, start, radii: [u64; 3]| self.edit(name, &draft, start, |d| d.radii = radii.to_vec());
+        one("first-widest", 0, [1700, 2600, 3500]);
+        one("first-too-wide", 4, [1701, 2600, 3500]);
+        one("middle-widest", 0, [300, 3300, 5000]);
+        one("middle-too-wide", 4, [300, 3301, 5000]);
+        one("last-widest", 0, [300, 700, 8300]);
+        one("last-too-wide", 4, [300, 700, 8301]);
+        self.edit("wide-run", &wide(), 0, |_| ());
+        // Wide columns let 5 and 6 have their turn.
+        self.edit("wide-no-screen", &wide(), 5, |draft| draft.layers[2][SCREENED] = 0);
+        self.edit("wide-storage-over", &wide(), 6, |draft| {
+            draft.radii.extend([1_180_900, 2_000_000]);
+            draft.layers[0][STORAGE] = 300_000;
+        });
+    }
+}
+
+/// Columns each nine times as wide as the one before it, pumped and at rest in turn for 2,000 steps.
+fn wide() -> Draft {
+    let mut draft = plain(100);
+    draft.radii = vec![1700, 14_500, 131_300];
+    let longest = draft.longest_step();
+    draft.pumping = (0..40).map(|entry| [if entry % 4 == 3 { 0 } else { 600 }, longest, 50]).collect();
+    draft
 }
 
 /// Twenty layers of 1 mm, all but the top two screened.

@@ -102,7 +102,7 @@ fn coefficients_of_k() {
 #[test]
 fn unmarked_cases_of_k() {
     let refused = |text: &[u8]| start(text).0.unwrap_err().number();
-    assert_eq!(refused(&changed(LAST_RADIUS, 1301)), 4);
+    assert_eq!(refused(&changed(LAST_RADIUS, 4901)), 4);
     assert_eq!(refused(&changed(INTAKE, 10_000)), 5);
     assert_eq!(refused(b""), 1);
     let mut k = start(&changed(INTAKE, 17)).1;
@@ -117,9 +117,28 @@ fn unmarked_cases_of_k() {
 }
 
 #[test]
+fn wider_columns_of_k() {
+    // u_2 is 1801, one over three times u_1 = 600, and 5400, nine times.
+    for (radius, lambda) in [(1300, 1_179_625_948), (1301, 1_180_222_304), (4900, 2_359_251_896)] {
+        let (outcome, k) = start(&changed(LAST_RADIUS, radius));
+        assert_eq!(outcome, Ok(()), "R_2 {radius}");
+        assert_eq!(geometry::lambda(500 + radius, 600), lambda);
+        assert_eq!(u128::from(k.across_c[slot(2, 1)]), 2000 * 100_000 * 6_746_518_852 / lambda);
+        assert_eq!(k.fault(), None);
+    }
+    // u_1 is 1800, nine times u_0 = 200, and one over it.
+    let first = |radius: u64| {
+        let mut numbers = NUMBERS;
+        (numbers[LAST_RADIUS - 1], numbers[LAST_RADIUS]) = (radius, 2600);
+        start(&text_of(&numbers)).0.map_err(|refusal| refusal.number())
+    };
+    assert_eq!((first(1700), first(1701)), (Ok(()), Err(4)));
+}
+
+#[test]
 fn refused_listings_of_k() {
     assert_eq!(listing(b""), "scenario 1\n");
-    assert_eq!(listing(&changed(LAST_RADIUS, 1301)), "scenario 4\n");
+    assert_eq!(listing(&changed(LAST_RADIUS, 4901)), "scenario 4\n");
     let header = LISTING.lines().next().unwrap();
     let second = "2 500000 16666 500000000 500000000 0 0";
     assert_eq!(listing(&changed(RATE, 10_000_001)), format!("{header}\nrefused 1 7\n{second}\n"));
@@ -139,5 +158,5 @@ fn entries_of_k() {
         assert_eq!(pumping_entry(&text, number), Err(Refusal::Absent));
     }
     assert_eq!(pumping_entry(b"x\n", 0), Err(Refusal::Line));
-    assert_eq!(pumping_entry(&changed(LAST_RADIUS, 1301), 9), Err(Refusal::Radii));
+    assert_eq!(pumping_entry(&changed(LAST_RADIUS, 4901), 9), Err(Refusal::Radii));
 }

@@ -1,38 +1,74 @@
 //! Λ against the true logarithm over the allowed range.
 
 use reference_model::geometry::lambda;
-use reference_model::logarithm::{check, in_range, true_logarithm, Worst};
+use reference_model::logarithm::{check, in_range, true_logarithm, Held, Range};
 use reference_model::random::Random;
 use reference_model::worst::{farthest, worst, RATIOS};
 
 #[test]
-fn lambda_is_within_64_of_the_true_logarithm() {
-    let mut worst = Worst::default();
-    let mut hold = |p: u64, q: u64| worst.hold(p, q, lambda(p, q) as u64).unwrap();
+fn lambda_is_near_the_true_logarithm() {
+    let mut held = Held::default();
+    let mut hold = |p: u64, q: u64| held.hold(p, q, lambda(p, q) as u64).unwrap();
     for q in 20..3000 {
-        for p in (q + 1..=3 * q).step_by(1 + q as usize / 40) {
+        for p in (q + 1..=9 * q).step_by(1 + q as usize / 40) {
             hold(p, q);
         }
-        hold(3 * q, q);
+        for p in [3 * q, 3 * q + 1, 9 * q] {
+            hold(p, q);
+        }
     }
     let mut random = Random::new(1);
-    for _ in 0..300_000 {
-        let q = random.spread(20, 3_999_998);
-        let p = random.between(q + 1, (3 * q).min(4_000_000));
-        hold(p, q);
+    for times in [3, 9] {
+        for _ in 0..300_000 {
+            let q = random.spread(20, 3_999_998);
+            let p = random.between(q + 1, (times * q).min(4_000_000));
+            hold(p, q);
+        }
     }
-    assert!(worst.lines > 400_000);
+    assert!(Range::BOTH.into_iter().all(|range| held.in_range(range).lines > 400_000));
 }
 
-/// The worst pair of a z among all pairs, one q after the other.
-fn farthest_of_all(z: u64) -> Option<f64> {
+#[test]
+fn tolerance_is_64_up_to_3q_and_128_above() {
+    for (p, q, tolerance) in [(600, 200, 64), (601, 200, 128), (1800, 200, 128), (201, 200, 64)] {
+        let middle = true_logarithm(p, q);
+        for (value, held) in [
+            (middle + f64::from(tolerance) - 1.0, true),
+            (middle + f64::from(tolerance) + 1.0, false),
+            (middle - f64::from(tolerance) + 1.0, true),
+            (middle - f64::from(tolerance) - 1.0, false),
+        ] {
+            assert_eq!(Held::default().hold(p, q, value.round() as u64).is_ok(), held, "{p} {q} {value}");
+        }
+    }
+}
+
+#[test]
+fn lambda_goes_over_from_its_series_at_3q() {
+    for q in (1..=1000).chain([444_444, 1_000_000, 1_333_333]) {
+        assert_eq!(lambda(3 * q, q), 1_179_625_948);
+        assert_eq!(lambda(3 * q + 1, q), 1_179_625_948 + lambda(3 * q + 1, 3 * q));
+        assert_eq!(lambda(9 * q, q), 2_359_251_896);
+    }
+}
+
+/// The z of a pair in a range, worked from p and q or from p and 3q.
+fn ratio_in(range: Range, p: u64, q: u64) -> Option<u64> {
+    let from = if range == Range::UpTo3 { q } else { 3 * q };
+    (in_range(p, q) && Range::of(p, q) == range).then(|| ((p - from) << 30) / (p + from))
+}
+
+/// The worst pair of a z among all pairs of a range, one q after the other.
+fn farthest_of_all(range: Range, z: u64) -> Option<f64> {
     let pairs = (1..4_000_000).flat_map(|q| {
+        let from = if range == Range::UpTo3 { q } else { 3 * q };
         // The p that have the z lie between these.
-        let (least, most) = (q * ((1 << 30) + z) / ((1 << 30) - z), q * ((1 << 30) + z + 1) / ((1 << 30) - z - 1));
+        let least = from * ((1 << 30) + z) / ((1 << 30) - z);
+        let most = from * ((1 << 30) + z + 1) / ((1 << 30) - z - 1);
         (least..=most + 1).map(move |p| (p, q))
     });
     let differences = pairs
-        .filter(|&(p, q)| in_range(p, q) && ((p - q) << 30) / (p + q) == z)
+        .filter(|&(p, q)| ratio_in(range, p, q) == Some(z))
         .map(|(p, q)| true_logarithm(p, q) - lambda(p, q) as f64);
     differences.reduce(f64::max)
 }
@@ -41,26 +77,32 @@ fn farthest_of_all(z: u64) -> Option<f64> {
 fn farthest_pairs_are_the_farthest_of_all() {
     let near = |one: f64, other: f64| (one - other).abs() < 1e-6;
     for z in [1, 268, 269, 1 << 20, 357_913_941, 357_913_942, 529_170_090, (1 << 29) - 1, 1 << 29] {
-        match (farthest(z), farthest_of_all(z)) {
-            (Some(pair), Some(difference)) => {
-                assert!(in_range(pair.p, pair.q) && near(pair.difference, difference), "{z}: {pair:?}, {difference}");
+        for range in Range::BOTH {
+            match (farthest(range, z), farthest_of_all(range, z)) {
+                (Some(pair), Some(difference)) => {
+                    assert_eq!(ratio_in(range, pair.p, pair.q), Some(z));
+                    assert!(near(pair.difference, difference), "{z}: {pair:?}, {difference}");
+                }
+                (None, None) => (),
+                different => panic!("{range:?} {z}: {different:?}"),
             }
-            (None, None) => (),
-            different => panic!("{z}: {different:?}"),
         }
     }
 }
 
 #[test]
-fn worst_pair_is_26_from_the_true_logarithm() {
-    // The ratios around it; `model worst` tries all.
-    let z = ((1_251_543 - 425_198) << 30) / (1_251_543 + 425_198);
-    let pairs = worst(z - 200_000..=z + 200_000, 3);
-    assert_eq!((pairs[0].p, pairs[0].q), (1_251_543, 425_198));
-    assert_eq!(format!("{:.3}", pairs[0].difference), "26.199");
-    assert!(pairs.windows(2).all(|two| two[0].difference >= two[1].difference));
+fn worst_pairs_are_the_known_ones() {
+    // The ratios around them; `model worst` tries all.
+    let known = [(Range::UpTo3, 1_251_543, 425_198, "26.199"), (Range::Above3, 3_754_629, 425_198, "40.903")];
+    for (range, p, q, difference) in known {
+        let z = ratio_in(range, p, q).unwrap();
+        let pairs = worst(range, z - 200_000..=z + 200_000, 3);
+        assert_eq!((pairs[0].p, pairs[0].q), (p, q));
+        assert_eq!(format!("{:.3}", pairs[0].difference), difference);
+        assert!(pairs.windows(2).all(|two| two[0].difference >= two[1].difference));
+        assert!(worst(range, 1..=1000, 0).is_empty());
+    }
     assert_eq!(RATIOS, 1..=1 << 29);
-    assert!(worst(1..=1000, 0).is_empty());
 }
 
 #[test]
@@ -72,15 +114,16 @@ fn smallest_lambda_is_536() {
 
 #[test]
 fn stored_lines_are_held() {
-    let (answers, worst) = check("600 200\n600 200 1179625948\n").unwrap();
+    let (answers, held) = check("600 200\n600 200 1179625948\n1800 200 2359251896\n").unwrap();
     assert_eq!(answers, ["600 200 1179625948"]);
-    assert_eq!(worst.lines, 1);
+    assert_eq!(Range::BOTH.map(|range| held.in_range(range).lines), [1, 1]);
     for bad in [
         "",
         "600\n",
         "600 200 1179625949\n",
         "600 200 1179625848\n",
-        "601 200 5\n",
+        "1800 200 2359251895\n",
+        "1801 200 5\n",
         "200 200 0\n",
         "a b\n",
         "1 2 3 4\n",

@@ -95,12 +95,17 @@ fn scenario_numbers() {
 
 #[test]
 fn rules_4_and_5() {
-    for (value, fault) in [(700, Some("radii")), (701, None), (2300, None), (2301, Some("radii"))] {
-        expect(fault, |record| record.radii[2] = value);
+    // u_3 is 700 + R_3, at most nine times u_2 = 300 + 700 = 1000, and R_4 is above R_3.
+    for (value, fault) in [(700, Some("radii")), (701, None), (8300, None), (8301, Some("radii"))] {
+        expect(fault, |record| (record.radii[2], record.radii[3], record.radii[4]) = (value, 8400, 8500));
     }
-    expect(None, |record| record.radii[4] = 3000 * 2 + 1600 * 3);
-    expect(Some("radii"), |record| record.radii[4] = 3000 * 2 + 1600 * 3 + 1);
+    // At the last column u_5 is 3000 + R_5 and u_4 is 1600 + 3000.
+    expect(None, |record| record.radii[4] = 9 * (1600 + 3000) - 3000);
+    expect(Some("radii"), |record| record.radii[4] = 9 * (1600 + 3000) - 3000 + 1);
     expect(Some("radii"), |record| record.radii[4] = 3000);
+    // At the well u_1 is R_0 + 300 and u_0 is 2 R_0.
+    expect(None, |record| record.well_radius = 18);
+    expect(Some("radii"), |record| record.well_radius = 17);
     expect(Some("radii"), |record| record.well_radius = 300);
     expect(None, |record| record.well_radius = 299);
     expect(None, |record| record.intake_depth = 12_999);

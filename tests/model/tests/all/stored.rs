@@ -2,6 +2,7 @@
 
 use reference_model::listing::listing;
 use reference_model::scenarios::{Case, Scenarios};
+use reference_model::text::read;
 use std::collections::BTreeSet;
 use std::fs;
 use std::path::PathBuf;
@@ -38,4 +39,34 @@ fn stored_texts_show_every_edge_and_refusal() {
     let sizes: BTreeSet<_> =
         cases.iter().filter(|case| case.name.starts_with("grid-")).map(|case| &case.name).collect();
     assert!(sizes.len() >= 50, "{} sizes of grids", sizes.len());
+}
+
+/// Where a column stands that is more than three times as wide as the one before it, and whether it is as wide as rule 4 allows.
+fn wide_columns(text: &[u8]) -> Vec<(&'static str, bool)> {
+    let Ok(scenario) = read(text) else { return Vec::new() };
+    let (site, last) = (&scenario.site, scenario.site.columns());
+    let ratio = |j: usize| (site.doubled_midsection(j), site.doubled_midsection(j - 1));
+    let wide = (1..=last).filter(|&j| ratio(j).0 > 3 * ratio(j).1);
+    let place = |j: usize| {
+        if j == 1 {
+            "first"
+        } else if j == last {
+            "last"
+        } else {
+            "middle"
+        }
+    };
+    wide.map(|j| (place(j), ratio(j).0 == 9 * ratio(j).1)).collect()
+}
+
+#[test]
+fn stored_texts_have_wide_columns_in_every_place() {
+    let (seed, count) = seed_and_count();
+    let scenarios = Scenarios::new(seed);
+    let texts = scenarios.different().take(count);
+    let wide: Vec<_> = texts.map(|case| wide_columns(&case.text)).filter(|columns| !columns.is_empty()).collect();
+    let columns: BTreeSet<_> = wide.iter().flatten().collect();
+    let wanted = ["first", "middle", "last"].into_iter().flat_map(|place| [(place, false), (place, true)]);
+    assert!(wanted.into_iter().all(|one| columns.contains(&one)), "{columns:?}");
+    assert!(wide.len() >= 20, "{} texts with wide columns", wide.len());
 }

@@ -86,8 +86,8 @@ fn later_refusals_keep_their_order() {
         edits.iter().for_each(|&(index, number)| numbers[index] = number);
         outcome(&text_of(&numbers))
     };
-    // Repeats 0 is 3, R_2 1301 is 4, p 10000 is 5, storage too small is 6.
-    let (three, four, five) = ((26, 0), (LAST_RADIUS, 1301), (INTAKE, 10_000));
+    // Repeats 0 is 3, R_2 4901 is 4, p 10000 is 5, storage too small is 6.
+    let (three, four, five) = ((26, 0), (LAST_RADIUS, 4901), (INTAKE, 10_000));
     let six = [(6, 1), (10, 1)];
     assert_eq!(edit(&six), 6);
     assert_eq!(edit(&[five, six[0], six[1]]), 5);

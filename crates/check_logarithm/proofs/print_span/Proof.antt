@@ -1,14 +1,14 @@
--- `check_logarithm::print_ratios`: each p is above q and at most 3q.
+-- `check_logarithm::print_span`: each p is above `from` and at most 3 times it.
 use Prim.Native.Nat.{_*_, _-_, _<_, _≤_}
 use native.Mathlib.Omega.{arith}
-use Rattle.check_logarithm.proofs.print_ratios.Statement.{statement}
-use Rattle.check_logarithm.proofs.print_ratios.Tie as tie
+use Rattle.check_logarithm.proofs.print_span.Statement.{statement}
+use Rattle.check_logarithm.proofs.print_span.Tie as tie
 
 abbrev Inv-loop : tie.InvT-loop
-Inv-loop q p₀ p = (q < p) × (p ≤ 5 * q)
+Inv-loop from q p₀ p = (from < p) × (p ≤ 5 * from)
 
 abbrev μ-loop : tie.MeasureT-loop
-μ-loop q p₀ p = 3 * q - p
+μ-loop from q p₀ p = 3 * from - p
 
 add-p : tie.Need-add-p Inv-loop μ-loop
 add-p c = omega arith
@@ -49,8 +49,8 @@ returns c = omega arith
 returns-2 : tie.Need-returns-2 Inv-loop μ-loop
 returns-2 c = omega arith
 
-pub print-ratios-spec : {M : Type 1} → statement M
-print-ratios-spec =
+pub print-span-spec : {M : Type 1} → statement M
+print-span-spec =
     tie.close
     (tie.spec
     Inv-loop
