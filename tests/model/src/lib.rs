@@ -1,4 +1,5 @@
-//! The reference model: drawdown around a pumped well, in whole numbers, written from document 01 alone.
+//! The reference model: drawdown around a pumped well, in whole numbers, written from document 01, and from
+//! the requests of document 02 that have landed, alone.
 //! Numbers are exact (u128 and i128 wherever a product may pass a word); floats follow the written order.
 
 pub mod changes;

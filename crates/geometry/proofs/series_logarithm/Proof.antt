@@ -8,9 +8,6 @@ use Rattle.geometry.proofs.Laws.{ratio-small, series-above, series-most
 use borrow.Author.Needs.{needs}
 use Rattle.geometry.proofs.series_logarithm.Statement.{statement}
 use Rattle.geometry.proofs.series_logarithm.Tie as tie
-use Rattle.geometry.proofs.series_logarithm.Reads as reads
-use Rattle.geometry.proofs.series_logarithm.Lts as lts
-use Rattle.geometry.proofs.series.Reads as series-reads
 
 sub-z : tie.Need-sub-z
 sub-z c = search needs
