@@ -196,36 +196,11 @@ fn deepest(rec: Record) -> u64 {
     most
 }
 
+// What a lent list holds before a reading: 9 in each slot, which is no code.
 fn blank() -> [u64; 1001]
     ensures { λ r. ⌜ 1001 ≡ length r ⌝ }
 {
-    [0; 1001]
-}
-
-// The first n codes of a list, rising, whatever their order in it.
-fn print_codes(list: &[u64; 1001], n: u64) {
-    let mut there = [false; 2100];
-    let mut k: usize = 0;
-    while k < 1001 {
-        let code = list[k];
-        if (k as u64) < n {
-            if code < 2100 {
-                there[code as usize] = true;
-            }
-        }
-        k += 1;
-    }
-    print_there(&there);
-}
-
-fn print_there(there: &[bool; 2100]) {
-    let mut code: usize = 0;
-    while code < 2100 {
-        if there[code] {
-            print_number(code as u64);
-        }
-        code += 1;
-    }
+    [9; 1001]
 }
 
 // The answer, and what a lent list of n slots holds after it.
@@ -242,27 +217,47 @@ fn list_deep(rec: Record, depth: u64, n: usize) -> Listed
     Listed { answer, list }
 }
 
+// 1 where slot k is one of the first n and is as it was, else 0.
+fn slot_left(list: &[u64; 1001], n: usize, k: usize) -> u64
+    requires { ⌜ k < 1001 ⌝ }
+    ensures { λ r. ⌜ r ≤ 1 ⌝ }
+{
+    if n <= k {
+        return 0;
+    }
+    if list[k] == 9 {
+        return 1;
+    }
+    0
+}
+
+// How many of the first n slots are as they were.
+fn slots_left(list: &[u64; 1001], n: usize) -> u64 {
+    let mut left: u64 = 0;
+    let mut k: usize = 0;
+    while k < 1001 {
+        left += slot_left(list, n, k);
+        k += 1;
+    }
+    left
+}
+
+// The first n slots of a list, in their order.
+fn print_codes(list: &[u64; 1001], n: u64) {
+    let mut k: usize = 0;
+    while k < 1001 {
+        if (k as u64) < n {
+            print_number(list[k]);
+        }
+        k += 1;
+    }
+}
+
 fn print_count(answer: Count) {
     match answer {
         Count::Refused(number) => print_refusal(number),
         Count::Given(count) => print_number(count),
     }
-}
-
-// What a list one slot too short for `count` cells gives.
-fn print_short(rec: Record, depth: u64, count: u64) {
-    if count == 0 {
-        return;
-    }
-    if 1001 < count {
-        return;
-    }
-    let short = list_deep(rec, depth, count as usize - 1);
-    print(b"deep short");
-    print_number(depth);
-    let answer = short.answer;
-    print_count(answer);
-    print_line_end();
 }
 
 fn count_in(answer: Count) -> u64 {
@@ -272,29 +267,68 @@ fn count_in(answer: Count) -> u64 {
     }
 }
 
-fn print_deep(rec: Record, depth: u64) {
-    let deep = list_deep(rec, depth, place_count(rec));
+// The answer with a list of n slots, how many of them are as they were, and those that are written.
+fn print_listed(word: &[u8], rec: Record, depth: u64, n: usize) -> u64
+    requires { ⌜ n ≤ 1001 ⌝ }
+{
+    let deep = list_deep(rec, depth, n);
     let answer = deep.answer;
     let count = count_in(answer);
-    print(b"deep");
+    print(word);
     print_number(depth);
     print_count(answer);
     let list = deep.list;
+    print_number(slots_left(&list, n));
     print_codes(&list, count);
     print_line_end();
-    print_short(rec, depth, count);
+    count
+}
+
+// What a list with a slot for each place gives, one exactly long enough, and one a slot too short.
+fn print_deep(rec: Record, depth: u64) {
+    let count = print_listed(b"deep", rec, depth, place_count(rec));
+    if count == 0 {
+        return;
+    }
+    if 1001 < count {
+        return;
+    }
+    print_listed(b"deep exact", rec, depth, count as usize);
+    print_listed(b"deep short", rec, depth, count as usize - 1);
+}
+
+// D of the cell in the middle of the list of all that are drawn down; 0 where there is none.
+fn middle(rec: Record) -> u64 {
+    let deep = list_deep(rec, 0, place_count(rec));
+    let answer = deep.answer;
+    let count = count_in(answer);
+    if count == 0 {
+        return 0;
+    }
+    if 1001 < count {
+        return 0;
+    }
+    let list = deep.list;
+    let code = list[count as usize / 2];
+    depth_at(rec, code / 100, code % 100)
+}
+
+fn less_one(depth: u64) -> u64 {
+    if depth == 0 {
+        return 0;
+    }
+    depth - 1
 }
 
 fn print_deep_cells(rec: Record) {
     let most = deepest(rec);
+    let half = middle(rec);
     print_deep(rec, 0);
     print_deep(rec, most / 4);
     print_deep(rec, most / 2);
-    if most == 0 {
-        print_deep(rec, 0);
-    } else {
-        print_deep(rec, most - 1);
-    }
+    print_deep(rec, less_one(half));
+    print_deep(rec, half);
+    print_deep(rec, less_one(most));
     print_deep(rec, most);
     print_deep(rec, 1000000000);
     print_deep(rec, 18446744073709551615);

@@ -10,6 +10,11 @@ unfoldable pub range : ℕ → ℕ → List ℕ
 range k zero = []
 range k (suc n) = k ∷ range (suc k) n
 
+-- the n numbers above k, falling
+unfoldable pub falling : ℕ → ℕ → List ℕ
+falling k zero = []
+falling k (suc n) = (k + suc n) ∷ falling k n
+
 -- ---- sums
 
 -- x where the test holds, else 0: of natural numbers and of integers

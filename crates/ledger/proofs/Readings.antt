@@ -3,10 +3,10 @@
 --     same-budget, same-loss, same-depth    so where it is given, it gives what the ledger's network and state give
 --     cell-place                            a cell that is named is a place
 --     set-inside, set-loss                  the set that bytes give has places only; its storage loss is that of the bytes
-use mathlib.Core.Path.{_≡_, refl, ap, ap₂, fun-ext, _∙_}
+use mathlib.Core.Path.{_≡_, refl, ap, fun-ext, _∙_}
 use mathlib.Core.Bool.{Bool, true, false, cond, not, _&&_, _||_, false≢true}
 use mathlib.Core.List.{List, [], _∷_}
-use Prim.Native.Nat.{ℕ, zero, suc, _-_, _/_, _%_, _≤_, _<_}
+use Prim.Native.Nat.{ℕ, zero, suc, _-_, _≤_, _<_}
 use native.Mathlib.Omega.{arith}
 use lib.Dec.{eqb, leb, ltb}
 use lib.Ieee.{Float}
@@ -14,10 +14,10 @@ use lib.IntN.{ℤ, negℤ}
 use lib.ListN.{length}
 use borrow.Author.Tests.{leb-true, ltb-true, lt-ltb, eqb-true, eq-eqb, not-false}
 use Rattle.laws.specs.All.{and-left, and-right}
-use Rattle.laws.specs.Lists.{first, ifℕ, sumℕ, range}
+use Rattle.laws.specs.Lists.{first, range}
 use Rattle.laws.specs.Refusal.{passed}
 use Rattle.laws.specs.Rows.{three-hold, four-hold}
-use Rattle.laws.specs.Sums.{sumℕ-ext, sumℤ-ext, range-below}
+use Rattle.laws.specs.Sums.{sumℤ-ext, range-below}
 use Rattle.network.specs.Network.{Network, State, isPlace, lossAt, lossIn, lengthOut, unstable}
 use Rattle.network.specs.Network as network
 use Rattle.network.specs.Grid.{Grid, layersOf, storedColumns, placeCount, place, acrossFace, downFace, networkOf}
@@ -31,8 +31,7 @@ use Rattle.validity.specs.Validity.{valid}
 use Rattle.coefficients.specs.Coefficients.{scenarioGrid}
 use Rattle.readings.specs.declared.Place.{Place}
 use Rattle.readings.specs.declared.Place.the-variants.{Well, Cell}
-use Rattle.readings.specs.declared.Count.{Count}
-use Rattle.readings.specs.Readings.{amountOf, balanceOf, samenessOf, isLayer, isStored, isNamed, numberOf, totalsIn, drawdownOf, budgetOf, setOf, lossOf, leads, faceFrom, waterFrom, flowOf, isDeeperIn, isDeeper, isDeepCodeIn, isDeepCode, deepCountIn, deepCount, deepRefusal, Listed, Deep, sameDepths, sameOf}
+use Rattle.readings.specs.Readings.{amountOf, balanceOf, samenessOf, isLayer, isStored, isNamed, numberOf, totalsIn, drawdownOf, budgetOf, setOf, lossOf, leads, faceFrom, waterFrom, flowOf, deepCountIn, deepCount, deepRefusal, codesAt, deepCodesIn, deepCodes, listedOf, deepOf, sameDepths, sameOf}
 use Rattle.hydraulics.specs.Hydraulics.{inflowOf}
 use Rattle.pipe.specs.Laws.{pipe-loss-same}
 use Rattle.read_head_loss.specs.HeadLoss.{waterInto, lossesAt, lossAnswerOf, isScreenedLayer, headLossRefusal, headLossOf}
@@ -79,6 +78,9 @@ module _ {scenario : Site} {s : State} {r : Record} (h : Carries scenario s r) w
   unfolding place
   same-place i zero = refl
   same-place i (suc j) = rw (same-count, same-columns)
+
+  same-places : place (gridOf r) ≡ place G
+  same-places = fun-ext (λ i. fun-ext (same-place i))
 
   same-number : (p : Place) → numberOf (gridOf r) p ≡ numberOf G p
   unfolding numberOf
@@ -194,24 +196,22 @@ module _ {scenario : Site} {s : State} {r : Record} (h : Carries scenario s r) w
 
   -- ---- deep cells
 
-  same-deeper : (D i j : ℕ) → isDeeper r D i j ≡ isDeeperIn G (s .losses) D i j
-  unfolding isDeeper
-  same-deeper D i j = rw (network-is h, h .state, same-place i j)
-
-  same-codes : (D : ℕ) → isDeepCode r D ≡ isDeepCodeIn G (s .losses) D
-  unfolding isDeepCode isLayer isStored
-  same-codes D = fun-ext (λ c. rw (network-is h, h .state, same-place (c / 100 - 1) (c % 100), same-layers, same-columns))
-
   same-deep-count : (D : ℕ) → deepCount r D ≡ deepCountIn G (s .losses) D
-  unfolding deepCount isDeeper layersOf storedColumns
-  same-deep-count D =
-      sumℕ-ext (range 0 (gridOf r .layers)) (λ i m. sumℕ-ext (range 1 (gridOf r .columns - 1)) (λ j k. ap (λ t. ifℕ t 1) (same-deeper D i j)))
-      ∙ ap₂ (λ n m. sumℕ (range 0 n) (λ i. sumℕ (range 1 (m - 1)) (λ j. ifℕ (isDeeperIn G (s .losses) D i j) 1))) same-layers same-columns
+  unfolding deepCount layersOf storedColumns
+  same-deep-count D = rw (network-is h, h .state, same-places, same-layers, same-columns)
 
-  pub told-deep : (D : ℕ) (old : List ℕ) (n : Count) (new : List ℕ) → Deep r D old n new
-      → Listed (first ((ltb (length old) (deepCountIn G (s .losses) D), 13) ∷ [])) (deepCountIn G (s .losses) D) (isDeepCodeIn G (s .losses) D) old n new
-  unfolding deepRefusal first
-  told-deep D old n new d = rw (h .valid, same-deep-count D, same-codes D) at d
+  same-codes-at : (d : ℕ) → codesAt (gridOf r) (stateOf r .losses) d ≡ codesAt G (s .losses) d
+  unfolding layersOf storedColumns
+  same-codes-at d = rw (network-is h, h .state, same-places, same-layers, same-columns)
+
+  same-codes : (D : ℕ) → deepCodes r D ≡ deepCodesIn G (s .losses) D
+  unfolding deepCodes
+  same-codes D = rw (fun-ext same-codes-at)
+
+  pub told-deep : (D : ℕ) (old : List ℕ)
+      → deepOf r D old ≡ listedOf (first ((ltb (length old) (deepCountIn G (s .losses) D), 13) ∷ [])) (deepCountIn G (s .losses) D) (deepCodesIn G (s .losses) D) old
+  unfolding deepOf deepRefusal first
+  told-deep D old = rw (h .valid, same-deep-count D, same-codes D)
 
   -- ---- compared
 

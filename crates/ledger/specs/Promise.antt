@@ -29,7 +29,7 @@ outcomesIn [] = []
 outcomesIn (stepped answer ∷ rs) = answer .outcome ∷ outcomesIn rs
 outcomesIn (amount a ∷ rs) = outcomesIn rs
 outcomesIn (balance b ∷ rs) = outcomesIn rs
-outcomesIn (listed n l ∷ rs) = outcomesIn rs
+outcomesIn (listed l ∷ rs) = outcomesIn rs
 outcomesIn (compared s ∷ rs) = outcomesIn rs
 outcomesIn (losses l ∷ rs) = outcomesIn rs
 

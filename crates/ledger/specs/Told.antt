@@ -4,7 +4,7 @@
 use mathlib.Core.Path.{_≡_}
 use mathlib.Core.Bool.{Bool, not, _&&_, _||_}
 use mathlib.Core.List.{List, [], _∷_}
-use Prim.Native.Nat.{ℕ, _-_}
+use Prim.Native.Nat.{_-_}
 use lib.Dec.{eqb, ltb}
 use lib.IntN.{ℤ}
 use lib.ListN.{length}
@@ -17,8 +17,7 @@ use Rattle.record.specs.declared.Answer.{Answer}
 use Rattle.record.specs.Record.{gridOf, stateOf, outcomeOf}
 use Rattle.validity.specs.Validity.{valid}
 use Rattle.coefficients.specs.Coefficients.{scenarioGrid}
-use Rattle.readings.specs.declared.Count.{Count}
-use Rattle.readings.specs.Readings.{amountOf, balanceOf, samenessOf, isNamed, numberOf, totalsIn, setOf, leads, waterFrom, isDeepCodeIn, deepCountIn, Listed, sameDepthsIn}
+use Rattle.readings.specs.Readings.{amountOf, balanceOf, samenessOf, isNamed, numberOf, totalsIn, setOf, leads, waterFrom, deepCountIn, deepCodesIn, listedOf, sameDepthsIn}
 use Rattle.hydraulics.specs.Hydraulics.{inflowOf}
 use Rattle.read_head_loss.specs.HeadLoss.{waterInto, lossesAt, lossAnswerOf, isScreenedLayer}
 use Rattle.ledger.specs.Calls.{drawdown, budget, loss, flow, deep, same, sameAs, headLoss, Call, step, read, Reply, stepped, amount, balance, listed, compared, losses}
@@ -49,10 +48,9 @@ module _ (scenario : Site) (s : State) where
   -- the water of a face from the first end named to the second, for a step Δt not taken; 12 for no such face, 7 and 8 for the Δt
   Tells (read (flow a b dt)) reply =
       reply ≡ amount (amountOf (first ((not (leads G a b || leads G b a), 12) ∷ (lengthOut dt, 7) ∷ (unstable N dt, 8) ∷ [])) (waterFrom G (s .losses) dt a b))
-  -- the cells deeper than D: how many, and the code of each once in the lent list; 13 for a list too short
+  -- the cells deeper than D: how many, and in the lent list the code of each in the reading's order; 13 for a list too short
   Tells (read (deep D old)) reply =
-      (n : Count) × (new : List ℕ) × (reply ≡ listed n new)
-      × Listed (first ((ltb (length old) (deepCountIn G (s .losses) D), 13) ∷ [])) (deepCountIn G (s .losses) D) (isDeepCodeIn G (s .losses) D) old n new
+      reply ≡ listed (listedOf (first ((ltb (length old) (deepCountIn G (s .losses) D), 13) ∷ [])) (deepCountIn G (s .losses) D) (deepCodesIn G (s .losses) D) old)
   -- whether the ledger and another record are the same, and the other way round; 14 for the other record
   Tells (read (same q)) reply = reply ≡ compared (samenessOf (first ((not (valid q), 14) ∷ [])) (alike G (s .losses) (gridOf q) (stateOf q .losses)))
   Tells (read (sameAs q)) reply = reply ≡ compared (samenessOf (first ((not (valid q), 14) ∷ [])) (alike (gridOf q) (stateOf q .losses) G (s .losses)))

@@ -1,14 +1,14 @@
--- The readings of a record in whole numbers (document 01, 'Readings' and 'Who brings a refusal about').
+-- The readings of a record in whole numbers (document 01, 'Readings' and 'Who brings a refusal about', as document 02 changes them).
 -- Each is judged in the order 14, 12, 13, 7 (its length part), 8, as far as it has such a condition.
 use mathlib.Core.Bool.{Bool, true, false, cond, not, _&&_, _||_}
-use mathlib.Core.Path.{_≡_}
-use mathlib.Core.List.{List, [], _∷_}
-use Prim.Native.Nat.{ℕ, zero, suc, _-_, _/_, _%_}
+use mathlib.Core.List.{List, [], _∷_, _++_, flatMap}
+use Prim.Native.Nat.{ℕ, zero, suc, _+_, _*_, _-_, _/_, _%_}
 use lib.IntN.{ℤ, pos, negℤ}
 use lib.Dec.{eqb, leb, ltb}
 use lib.Signed.{ltZ}
-use lib.ListN.{length, getD, take, drop}
-use Rattle.laws.specs.Lists.{allBelow, first, ifℕ, sumℕ}
+use lib.ListN.{length, getD, drop}
+use Rattle.limits.specs.Limits.{drawdownLimit}
+use Rattle.laws.specs.Lists.{falling, allBelow, first, ifℕ, sumℕ}
 use Rattle.network.specs.Network.{Face, Network, State, lossAt, drawdown, flow, lossIn, lengthOut, unstable}
 use Rattle.network.specs.Grid.{Grid, storedColumns, layersOf, placeCount, place, acrossFace, downFace, networkOf}
 use Rattle.record.specs.declared.Record.{Record}
@@ -132,11 +132,8 @@ unfoldable pub isDeeper : Record → ℕ → ℕ → ℕ → Bool
 isDeeper r D i j = isDeeperIn (gridOf r) (stateOf r .losses) D i j
 
 -- c is layer×100+column of such a cell
-abbrev pub isDeepCodeIn : Grid → List ℤ → ℕ → ℕ → Bool
-isDeepCodeIn G vs D c = isLayer G (c / 100) && isStored G (c % 100) && isDeeperIn G vs D (c / 100 - 1) (c % 100)
-
 unfoldable pub isDeepCode : Record → ℕ → ℕ → Bool
-isDeepCode r D c = isDeepCodeIn (gridOf r) (stateOf r .losses) D c
+isDeepCode r D c = isLayer (gridOf r) (c / 100) && isStored (gridOf r) (c % 100) && isDeeper r D (c / 100 - 1) (c % 100)
 
 -- how many such cells there are
 abbrev pub deepCountIn : Grid → List ℤ → ℕ → ℕ
@@ -149,24 +146,32 @@ deepCount r D = deepCountIn (gridOf r) (stateOf r .losses) D
 unfoldable pub deepRefusal : Record → ℕ → ℕ → ℕ
 deepRefusal r D n = first ((not (valid r), 14) ∷ (ltb n (deepCount r D), 13) ∷ [])
 
--- how often c stands in a list
-unfoldable pub times : ℕ → List ℕ → ℕ
-times c l = sumℕ l λ x. ifℕ (eqb x c) 1
+-- layer×100+column of each cell with the drawdown d, by layer rising, then column rising
+abbrev pub codesAt : Grid → List ℤ → ℕ → List ℕ
+codesAt G vs d =
+    flatMap (λ i. flatMap (λ j. cond (equalℤ (drawdown (networkOf G) vs (place G i j)) (pos d)) ((suc i * 100 + j) ∷ []) []) (storedColumns G)) (layersOf G)
 
--- how many slots of a list are written for so many cells: none where the reading is refused
-unfoldable pub written : ℕ → ℕ → ℕ
-written refused count = cond (eqb refused 0) count 0
+-- that of each cell deeper than D, in the order of document 02 (N3): by drawdown falling, then layer rising, then column rising. 14 lets no D pass that
+-- is above drawdownLimit
+abbrev pub deepCodesIn : Grid → List ℤ → ℕ → List ℕ
+deepCodesIn G vs D = flatMap (codesAt G vs) (falling D (drawdownLimit - D))
 
--- The answer, and what a lent list `old` is after it, by the number of the first refusal, 0 for none, the count of the cells and which codes are theirs:
--- each such code once in the part written, in any order, and no other; the rest as before.
-pub record Listed (refused count : ℕ) (isCode : ℕ → Bool) (old : List ℕ) (answer : Count) (new : List ℕ) : Type 0 where
-  pub answered : answer ≡ countOf refused count
-  pub once : (c : ℕ) → times c (take (written refused count) new) ≡ ifℕ (eqb refused 0 && isCode c) 1
-  pub slots : length new ≡ length old
-  pub rest : drop (written refused count) new ≡ drop (written refused count) old
+unfoldable pub deepCodes : Record → ℕ → List ℕ
+deepCodes r D = deepCodesIn (gridOf r) (stateOf r .losses) D
 
-abbrev pub Deep : Record → ℕ → List ℕ → Count → List ℕ → Type 0
-Deep r D old answer new = Listed (deepRefusal r D (length old)) (deepCount r D) (isDeepCode r D) old answer new
+-- the answer, and what a lent list holds after it
+pub record Listed : Type 0 where
+  pub answer : Count
+  pub list : List ℕ
+
+-- by the number of the first refusal, 0 for none: the count of the cells, and their codes in the first slots of the list, the others as in `old`, the list
+-- before; or the number, and `old`
+unfoldable pub listedOf : ℕ → ℕ → List ℕ → List ℕ → Listed
+listedOf zero count codes old = record { answer = countOf zero count; list = codes ++ drop (length codes) old }
+listedOf (suc n) count codes old = record { answer = countOf (suc n) count; list = old }
+
+unfoldable pub deepOf : Record → ℕ → List ℕ → Listed
+deepOf r D old = listedOf (deepRefusal r D (length old)) (deepCount r D) (deepCodes r D) old
 
 -- ---- whether two records are the same: equal layer and column counts, equal D everywhere
 

@@ -4,6 +4,7 @@ use crate::grid::{slot, Place};
 use crate::record::Record;
 use crate::refusal::Refusal;
 use crate::step;
+use std::cmp::Reverse;
 
 /// Totals of a record, nl.
 #[derive(Clone, Copy, PartialEq, Eq, Debug)]
@@ -67,15 +68,19 @@ pub fn judge_step(record: &Record, length: u64) -> Result<(), Refusal> {
     step::judge_stability(record, length, None)
 }
 
-/// Cells deeper than a threshold (µm), as layer × 100 + column at the front of a lent list; their number.
+/// Cells deeper than a threshold (µm), as layer × 100 + column at the front of a lent list; their number. The deepest come first, and of
+/// those with equal drawdown the topmost, then the innermost (document 02, N3). Drawdown is whole µm here: what is left over in nl decides
+/// nothing.
 pub fn deep_cells(record: &Record, threshold: u64, list: &mut [u64]) -> Result<usize, Refusal> {
     record.judge()?;
-    let deeper = |&(layer, column): &(usize, usize)| record.cell_drawdown(layer, column) > threshold;
-    let codes: Vec<u64> =
-        record.stored_cells().filter(deeper).map(|(layer, column)| (layer * 100 + column) as u64).collect();
-    let front = list.get_mut(..codes.len()).ok_or(Refusal::Buffer)?;
-    front.copy_from_slice(&codes);
-    Ok(codes.len())
+    let with_depth = |(layer, column)| (Reverse(record.cell_drawdown(layer, column)), layer, column);
+    let mut cells: Vec<_> = record.stored_cells().map(with_depth).filter(|(depth, ..)| depth.0 > threshold).collect();
+    cells.sort_unstable();
+    let front = list.get_mut(..cells.len()).ok_or(Refusal::Buffer)?;
+    for (code, &(_, layer, column)) in front.iter_mut().zip(&cells) {
+        *code = (layer * 100 + column) as u64;
+    }
+    Ok(cells.len())
 }
 
 /// Whether two records have equal layer and column counts and equal drawdowns everywhere.

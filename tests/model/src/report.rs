@@ -248,23 +248,58 @@ fn write_sets(record: &Record, out: &mut impl Write) -> io::Result<()> {
     Ok(())
 }
 
-/// `deep THRESHOLD COUNT CODE ..` with the codes rising, then what a list one too short gives.
+/// What every slot of a lent list holds before the call. It is no code.
+const UNWRITTEN: u64 = 9;
+
+/// For each threshold a list with a slot for each place, and where some cell is deeper one that is just long enough and one a slot too
+/// short: `deep`, `deep exact` and `deep short`.
 fn write_deep_cells(record: &Record, out: &mut impl Write) -> io::Result<()> {
-    let depths = record.stored_cells().map(|(layer, column)| record.cell_drawdown(layer, column));
-    let deepest = depths.max().expect("there is a stored cell");
-    let thresholds = [0, deepest / 4, deepest / 2, deepest.saturating_sub(1), deepest, 1_000_000_000, u64::MAX];
-    for threshold in thresholds {
-        let mut list = vec![0; readings::set_length(record)];
-        let count = readings::deep_cells(record, threshold, &mut list).expect("the list holds every cell");
-        list.truncate(count);
-        list.sort_unstable();
-        writeln!(out, "deep {threshold} {count}{}", row(&list))?;
+    for threshold in deep_thresholds(record) {
+        let (answer, list) = deep_list(record, threshold, readings::set_length(record));
+        let count = answer.expect("the list holds every cell");
+        write_deep_list("deep", threshold, count, &list, out)?;
         if count > 0 {
-            let short = readings::deep_cells(record, threshold, &mut list[1..]);
-            writeln!(out, "deep short {threshold} {}", value(short))?;
+            let (answer, list) = deep_list(record, threshold, count);
+            write_deep_list("deep exact", threshold, answer.expect("the list is long enough"), &list, out)?;
+            let (answer, list) = deep_list(record, threshold, count - 1);
+            writeln!(out, "deep short {threshold} {} {}", value(answer), unwritten(&list))?;
         }
     }
     Ok(())
+}
+
+/// Thresholds around the drawdowns of the deepest cell and of the cell in the middle of the list of all that are deeper than 0.
+fn deep_thresholds(record: &Record) -> [u64; 9] {
+    let depths = record.stored_cells().map(|(layer, column)| record.cell_drawdown(layer, column));
+    let deepest = depths.max().expect("there is a stored cell");
+    let (answer, list) = deep_list(record, 0, readings::set_length(record));
+    let middle = match answer.expect("the list holds every cell") {
+        0 => 0,
+        count => depth_of_code(record, list[count / 2]),
+    };
+    let under = |depth: u64| depth.saturating_sub(1);
+    [0, deepest / 4, deepest / 2, under(middle), middle, under(deepest), deepest, 1_000_000_000, u64::MAX]
+}
+
+/// D of the cell with a code, µm.
+fn depth_of_code(record: &Record, code: u64) -> u64 {
+    record.cell_drawdown((code / 100) as usize, (code % 100) as usize)
+}
+
+/// The reading on a lent list of a length: its answer, and the list after the call.
+fn deep_list(record: &Record, threshold: u64, length: usize) -> (Result<usize, Refusal>, Vec<u64>) {
+    let mut list = vec![UNWRITTEN; length];
+    (readings::deep_cells(record, threshold, &mut list), list)
+}
+
+/// `NAME THRESHOLD COUNT LEFT CODE ..`, the codes as they stand in the list.
+fn write_deep_list(name: &str, threshold: u64, count: usize, list: &[u64], out: &mut impl Write) -> io::Result<()> {
+    writeln!(out, "{name} {threshold} {count} {}{}", unwritten(list), row(&list[..count]))
+}
+
+/// How many slots of a list were not written.
+fn unwritten(list: &[u64]) -> usize {
+    list.iter().filter(|&&code| code == UNWRITTEN).count()
 }
 
 /// Flow of every face for a length, outward or downward; backward must give the same with the other sign.

@@ -6,22 +6,22 @@ use Rattle.check_report.proofs.print_codes.Statement.{statement}
 use Rattle.check_report.proofs.print_codes.Tie as tie
 
 abbrev Inv-loop : tie.InvT-loop
-Inv-loop list n there₀ k₀ there k = k ≤ 1001
+Inv-loop list n k₀ k = k ≤ 1001
 
 abbrev μ-loop : tie.MeasureT-loop
-μ-loop list n there₀ k₀ there k = 1001 - k
+μ-loop list n k₀ k = 1001 - k
 
 loop-holds : tie.Need-loop-holds Inv-loop μ-loop
 loop-holds c = omega arith
 
-mul-code : tie.Need-mul-code Inv-loop μ-loop
-mul-code c = omega arith
+mul-print-number : tie.Need-mul-print-number Inv-loop μ-loop
+mul-print-number c = omega arith
 
-element-copy-out-code : tie.Need-element-copy-out-code Inv-loop μ-loop
-element-copy-out-code c = omega arith
+element-copy-out-print-number : tie.Need-element-copy-out-print-number Inv-loop μ-loop
+element-copy-out-print-number c = omega arith
 
-array-write-there : tie.Need-array-write-there Inv-loop μ-loop
-array-write-there c = search needs
+print-number-requires : tie.Need-print-number-requires Inv-loop μ-loop
+print-number-requires c κs = search needs
 
 add-k : tie.Need-add-k Inv-loop μ-loop
 add-k c = omega arith
@@ -31,9 +31,6 @@ loop-less c = omega arith
 
 loop-again : tie.Need-loop-again Inv-loop μ-loop
 loop-again c = omega arith
-
-print-there-requires : tie.Need-print-there-requires Inv-loop μ-loop
-print-there-requires c κs = search needs
 
 returns : tie.Need-returns Inv-loop μ-loop
 returns c = search needs
@@ -45,11 +42,10 @@ print-codes-spec =
     Inv-loop
     μ-loop
     loop-holds
-    mul-code
-    element-copy-out-code
-    array-write-there
+    mul-print-number
+    element-copy-out-print-number
+    print-number-requires
     add-k
     loop-less
     loop-again
-    print-there-requires
     returns)

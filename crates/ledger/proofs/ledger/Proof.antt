@@ -15,7 +15,7 @@ use Rattle.readings.specs.Readings.{amountOf, numberOf, setOf}
 use Rattle.validity.specs.Laws.{valid-record, valid-proper}
 use Rattle.scenario.specs.Scenario.{scenarioOf, startOf}
 use Rattle.start_laws.specs.Laws.{Carries, network-is, begun}
-use Rattle.ledger.specs.Calls.{Call, Reply, leftByAll, Run}
+use Rattle.ledger.specs.Calls.{Call, leftByAll, repliesTo}
 use Rattle.ledger.specs.Ledger.{gridFrom, networkFrom, ledgerOf, acceptedOf, pumpedBy, inSet, netInto, greatest}
 use Rattle.ledger.specs.Promise.{Holds}
 use Rattle.ledger.proofs.AcceptedSteps.{Steps, accepted-steps, gained, conserved-over, kept-over, depth-natural, rest-within, greatest-natural, within-over}
@@ -53,10 +53,10 @@ module _ (text : List ℕ) (r : Record) (h : Carries (scenarioOf text) (atRest (
       ∙ conserved-over (networkFrom text) (inSet (networkFrom text) bytes) (set-inside (networkFrom text) bytes) steps
       ∙ rw (loss-in-at-rest (networkFrom text) (inSet (networkFrom text) bytes)) (+ℤ-idl _)
 
-  holds : (replies : List Reply) → Run r calls replies → Holds text calls replies (leftByAll r calls)
-  holds replies run = record {
-    told = told-all h run;
-    outcomes = same-outcomes h run;
+  holds : Holds text calls (repliesTo r calls) (leftByAll r calls)
+  holds = record {
+    told = told-all calls h;
+    outcomes = same-outcomes calls h;
     state = end .state;
     accepted = end .valid;
     budget = same-budget end;
@@ -67,7 +67,7 @@ module _ (text : List ℕ) (r : Record) (h : Carries (scenarioOf text) (atRest (
   }
 
 returns : tie.Need-returns
-returns c text taken calls replies run = holds text (startOf text .«record») (begun text taken) calls replies run
+returns c text taken calls = holds text (startOf text .«record») (begun text taken) calls
 
 pub ledger-spec : {M : Type 1} → statement M
 ledger-spec = tie.close (tie.spec returns)

@@ -5,19 +5,19 @@ use Prim.Native.Nat.{_≤_, _-_}
 use native.Mathlib.Omega.{arith}
 use denote.Ref.{now}
 use lib.ListN.{length}
-use Rattle.read_deep_cells.specs.Codes.{codesBelow, deepAt}
+use Rattle.read_deep_cells.specs.Codes.{codeOf, below, deepAt}
 use Rattle.read_deep_cells.proofs.Turn.{none-counted, passed-over, counted}
 use Rattle.read_deep_cells.proofs.count_deep.Statement.{statement}
 use Rattle.read_deep_cells.proofs.count_deep.Tie as tie
 
 abbrev Inv-loop : tie.InvT-loop
-Inv-loop depths depth n count₀ k₀ count k = (k ≤ n) × (count ≤ k) × (count ≡ length (codesBelow (deepAt depth depths) k))
+Inv-loop depths depth n count₀ k₀ count k = (k ≤ n) × (count ≤ k) × (count ≡ length (below (deepAt depth depths) codeOf k))
 
 abbrev μ-loop : tie.MeasureT-loop
 μ-loop depths depth n count₀ k₀ count k = n - k
 
 loop-holds : tie.Need-loop-holds Inv-loop μ-loop
-loop-holds c = (omega arith, omega arith, none-counted _ _)
+loop-holds c = (omega arith, omega arith, none-counted _ _ codeOf)
 
 is-deep-requires : tie.Need-is-deep-requires Inv-loop μ-loop
 is-deep-requires c κs = omega arith
@@ -36,8 +36,8 @@ loop-again c =
     let at = c .before .before .before in
     let a = at .before .args in
     ⊎-elim
-    (λ w. omega (arith, counted (a .depth) (now (a .depths)) (at .loop .k) (sym (c .before .is-deep .ensures) ∙ w .0 .taken)))
-    (λ w. omega (arith, ap length (passed-over (a .depth) (now (a .depths)) (at .loop .k) (sym (c .before .is-deep .ensures) ∙ w .0 .left))))
+    (λ w. omega (arith, counted (a .depth) (now (a .depths)) codeOf (at .loop .k) (sym (c .before .is-deep .ensures) ∙ w .0 .taken)))
+    (λ w. omega (arith, ap length (passed-over (a .depth) (now (a .depths)) codeOf (at .loop .k) (sym (c .before .is-deep .ensures) ∙ w .0 .left))))
     (c .if1 .came)
 
 returns : tie.Need-returns Inv-loop μ-loop

@@ -1,5 +1,5 @@
 //! The catalogue of edges: every limit of document 01, as document 02 changes it, that a text can reach,
-//! at its last accepted and first refused value.
+//! at its last accepted and first refused value; and grids in which many drawdowns are equal.
 
 use super::damage::line_replaced;
 use super::draft::{text_of, Draft};
@@ -23,6 +23,7 @@ pub fn catalogue() -> Vec<Case> {
     edges.storages();
     edges.steps();
     edges.wide_columns();
+    edges.equal_drawdowns();
     edges.0
 }
 
@@ -402,6 +403,18 @@ impl Edges {
             draft.layers[0][STORAGE] = 300_000;
         });
     }
+
+    /// Grids in which many cells are deep and many have the same drawdown, for the order of the list of deep cells. Every step is taken.
+    fn equal_drawdowns(&mut self) {
+        for (name, draft) in [
+            ("equal-layers", equal_layers()),
+            ("equal-layers-coupled", equal_layers_coupled()),
+            ("ties-in-um", ties_in_um()),
+            ("all-deep", all_deep()),
+        ] {
+            self.edit(name, &draft, 0, |_| ());
+        }
+    }
 }
 
 /// Columns each nine times as wide as the one before it, pumped and at rest in turn for 2,000 steps.
@@ -422,4 +435,56 @@ fn thin() -> Draft {
     draft.well[INTAKE] = 1;
     draft.well[RADIUS] = 50;
     draft
+}
+
+/// Columns that a drawdown runs through fast, each but the first 100 mm wide, around a well of 5 m.
+fn narrow_radii(columns: u64) -> Vec<u64> {
+    (1..=columns).map(|column| 5100 + 100 * column).collect()
+}
+
+/// A draft without screen losses and with entries of a rate and repeats each, their steps as long as may be.
+fn pumped(layers: Vec<[u64; 5]>, radii: Vec<u64>, well: [u64; 4], entries: &[(u64, u64)]) -> Draft {
+    let mut draft = Draft { layers, radii, well: well.to_vec(), screen_losses: vec![], pumping: vec![] };
+    let longest = draft.longest_step();
+    draft.pumping = entries.iter().map(|&(rate, repeats)| [rate, longest, repeats]).collect();
+    draft
+}
+
+/// Twenty layers without vertical flow, all below layer 1 screened and equal, so that they have equal drawdowns in each column. After the
+/// 140 steps all of their 19 × 49 cells are deep.
+fn equal_layers() -> Draft {
+    let mut layers = vec![[1000, 1, 1000, 0, 1_000_000]; 20];
+    layers[0] = [30_000, 0, 1000, 0, 200_000];
+    let well = [5000, 1_000_000, 29_000, 20_000];
+    pumped(layers, narrow_radii(50), well, &[(50_000, 50), (80_000, 50), (0, 40)])
+}
+
+/// Three fast layers, equal, with two slow ones between them, equal too, and a layer 1 without horizontal flow: 520 steps. At rest the well
+/// and the fast layers rise first, and layers and columns change places in the list. After each entry all 66 cells are deep.
+fn equal_layers_coupled() -> Draft {
+    let (fast, slow) = ([1000, 1, 100_000, 10_000, 1_000_000], [1000, 1, 20_000, 10_000, 1_000_000]);
+    let layers = vec![[30_000, 0, 0, 10_000, 20], fast, slow, fast, slow, fast];
+    let well = [5000, 10_000, 29_000, 20_000];
+    pumped(layers, narrow_radii(12), well, &[(100, 100), (0, 250), (100, 20), (0, 150)])
+}
+
+/// Cells of such storage that after 180 steps all are within a few µm of 0, those of a column equal in S: many have the same drawdown and
+/// have lost different volumes.
+fn ties_in_um() -> Draft {
+    let mut layers = vec![[10_000, 0, 10_000_000, 200_000, 1_000_000]; 5];
+    layers[0][STORAGE] = 10_000;
+    layers[4][SCREENED] = 1;
+    let radii = (0..9).map(|column| 50_000 + 100_000 * column).collect();
+    let well = [5000, 100_000_000, 9000, 20_000];
+    pumped(layers, radii, well, &[(20, 60), (0, 60), (20, 30), (0, 30)])
+}
+
+/// The largest grid, every third layer screened, each layer below layer 1 a little faster than the one above it. After the 150 steps all of
+/// its 980 cells are deep.
+fn all_deep() -> Draft {
+    let layer = |number: u64| [1000, u64::from(number % 3 == 2), 900 + 5 * number, 20_000, 1_000_000];
+    let mut layers: Vec<_> = (1..=20).map(layer).collect();
+    layers[0] = [100_000, 0, 1, 20_000, 100];
+    let well = [5000, 1_000_000, 90_000, 20_000];
+    pumped(layers, narrow_radii(50), well, &[(250_000, 60), (100_000, 60), (0, 30)])
 }

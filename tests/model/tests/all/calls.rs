@@ -13,6 +13,7 @@ use reference_model::refusal::Refusal;
 use reference_model::site::Site;
 use reference_model::step::step_with;
 use reference_model::text::Scenario;
+use std::collections::{BTreeMap, BTreeSet};
 
 use crate::bore_k::equal;
 
@@ -225,16 +226,9 @@ fn flow(ledger: &Ledger, from: Place, to: Place, length: u64) -> Result<i64, Ref
     Ok((sign * ledger.flow(face, length)) as i64)
 }
 
-/// Each deep cell once at the front of the list, the rest untouched; with 13 all of it is.
-fn deep_cells(record: &Record, ledger: &Ledger, threshold: u64, list: Vec<u64>) -> Result<(), String> {
-    let mut wanted: Vec<u64> = Vec::new();
-    for &place in ledger.places.keys() {
-        if let Place::Cell { layer, column } = place {
-            if ledger.drawdown(place) > i128::from(threshold) {
-                wanted.push(layer * 100 + column);
-            }
-        }
-    }
+/// The list of deep cells as the ledger has it, the rest of the lent list untouched; with 13 all of it is.
+pub fn deep_cells(record: &Record, ledger: &Ledger, threshold: u64, list: Vec<u64>) -> Result<(), String> {
+    let mut wanted = deep_codes(ledger, threshold);
     let mut written = list.clone();
     let answer = readings::deep_cells(record, threshold, &mut written);
     if wanted.len() > list.len() {
@@ -242,11 +236,21 @@ fn deep_cells(record: &Record, ledger: &Ledger, threshold: u64, list: Vec<u64>) 
         return equal("list left", written, list);
     }
     equal("deep count", answer, Ok(wanted.len()))?;
-    equal("rest of the list", &written[wanted.len()..], &list[wanted.len()..])?;
-    written.truncate(wanted.len());
-    written.sort_unstable();
-    wanted.sort_unstable();
-    equal("deep cells", written, wanted)
+    wanted.extend(&list[wanted.len()..]);
+    equal("deep list", written, wanted)
+}
+
+/// The codes of the cells that are deeper than a threshold by the ledger: those of the largest drawdown first, of one drawdown in the order
+/// of the codes, which is that of layers and then of columns.
+fn deep_codes(ledger: &Ledger, threshold: u64) -> Vec<u64> {
+    let mut by_depth: BTreeMap<i128, BTreeSet<u64>> = BTreeMap::new();
+    for &place in ledger.places.keys() {
+        if let Place::Cell { layer, column } = place {
+            by_depth.entry(ledger.drawdown(place)).or_default().insert(layer * 100 + column);
+        }
+    }
+    let deeper = by_depth.split_off(&(i128::from(threshold) + 1));
+    deeper.into_values().rev().flatten().collect()
 }
 
 fn same(ledger: &Ledger, site: &Site, other: &Record) -> Result<bool, Refusal> {

@@ -3,6 +3,7 @@
 mod bore_k;
 mod calls;
 mod command;
+mod deep_cells;
 mod garbage;
 mod head_losses;
 mod logarithms;

@@ -1,7 +1,7 @@
 //! Random call lists and whole pumping lists against the ledger.
 
 use crate::bore_k::equal;
-use crate::calls::{check_state, make, set_loss, Drawer};
+use crate::calls::{check_state, deep_cells, make, set_loss, Drawer};
 use reference_model::grid::Place;
 use reference_model::ledger::Ledger;
 use reference_model::listing::run_entry;
@@ -84,6 +84,9 @@ fn whole_runs_agree_with_the_ledger() {
             let ledgers = (0..entry.repeats).try_for_each(|_| ledger.step(entry.rate, entry.length));
             assert_eq!(run_entry(&mut record, entry), ledgers);
             assert_eq!(check_state(&record, &ledger), Ok(()));
+            for threshold in [0, record.well_drawdown() / 1000, record.well_drawdown() / 30] {
+                assert_eq!(deep_cells(&record, &ledger, threshold, vec![7; places]), Ok(()));
+            }
         }
         assert!(ledger.deepest_well >= ledger.drawdown(Place::Well));
     }
