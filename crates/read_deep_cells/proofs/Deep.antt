@@ -32,7 +32,7 @@ use Rattle.record.specs.Record.{gridOf, stateOf}
 use Rattle.validity.specs.Validity.{equalℤ, valid}
 use Rattle.validity.specs.Laws.{Valid, valid-record, valid-proper}
 use Rattle.readings.specs.Readings.{isDeeper, isDeepCode, deepCount, codesAt, deepCodes}
-use Rattle.read_deep_cells.specs.Order.{times, depthOf, inPlaceOrder, mayPrecede, inOrder, Arranged}
+use Rattle.read_deep_cells.specs.Order.{times, depthOfCode, inPlaceOrder, mayPrecede, inOrder, Arranged}
 use Rattle.read_deep_cells.proofs.Ordered.{unique, order-none, order-one, order-flatMap, order-range, order-falling}
 use Rattle.read_deep_cells.proofs.Slots.{length-sum, counted, codes, sum-codes, count-codes, times-codes}
 
@@ -104,7 +104,7 @@ rises-code a b e = ⊎-elim
     (λ q. omega (arith, eqb-true (a / 100) (b / 100) (and-left (eqb (a / 100) (b / 100)) (leb (a % 100) (b % 100)) q), leb-true (a % 100) (b % 100) (and-right (eqb (a / 100) (b / 100)) (leb (a % 100) (b % 100)) q)))
     (or-cases (ltb (a / 100) (b / 100)) (eqb (a / 100) (b / 100) && leb (a % 100) (b % 100)) e)
 
-module _ (r : Record) (a b x y : ℕ) (ea : depthOf r a ≡ pos x) (eb : depthOf r b ≡ pos y) where
+module _ (r : Record) (a b x y : ℕ) (ea : depthOfCode r a ≡ pos x) (eb : depthOfCode r b ≡ pos y) where
   precede-is : mayPrecede r a b ≡ (ltb y x || (leb y x && leb x y) && inPlaceOrder a b)
   unfolding mayPrecede
   precede-is = rw (ea, eb)
@@ -154,8 +154,8 @@ module _ (r : Record) (ok : valid r ≡ true) where
   pub codeDepth : ℕ → ℕ
   codeDepth c = depth (place G (c / 100 - 1) (c % 100))
 
-  pub code-depth : (c : ℕ) → depthOf r c ≡ pos (codeDepth c)
-  unfolding depthOf codeDepth
+  pub code-depth : (c : ℕ) → depthOfCode r c ≡ pos (codeDepth c)
+  unfolding depthOfCode codeDepth
   code-depth c = depth-is (place G (c / 100 - 1) (c % 100))
 
   never-both : (a b : ℕ) → mayPrecede r a b ≡ true → mayPrecede r b a ≡ true → a ≡ b
@@ -222,8 +222,8 @@ module _ (r : Record) (ok : valid r ≡ true) where
   -- ---- their order
 
   module _ (d : ℕ) where
-    in-cell : (i j c : ℕ) → List·Memᴰ j (storedColumns G) → List·Memᴰ c (cellAt d i j) → (depthOf r c ≡ pos d) × (c ≡ suc i * 100 + j)
-    unfolding depthOf
+    in-cell : (i j c : ℕ) → List·Memᴰ j (storedColumns G) → List·Memᴰ c (cellAt d i j) → (depthOfCode r c ≡ pos d) × (c ≡ suc i * 100 + j)
+    unfolding depthOfCode
     in-cell i j c h m = (ap₂ (λ k l. drawdown N vs (place G k l)) layer column ∙ depth-is (place G i j) ∙ ap pos deep, q)
       where
         one : (equalℤ (drawdown N vs (place G i j)) (pos d) ≡ true) × (c ≡ suc i * 100 + j)
@@ -241,17 +241,17 @@ module _ (r : Record) (ok : valid r ≡ true) where
         column : c % 100 ≡ j
         column = omega (arith, q, column-bounds h .1, counted r 0 ok .columns-most)
 
-    in-row : (i c : ℕ) → List·Memᴰ c (rowAt d i) → (depthOf r c ≡ pos d) × (suc i * 100 ≤ c) × (c < suc (suc i) * 100)
+    in-row : (i c : ℕ) → List·Memᴰ c (rowAt d i) → (depthOfCode r c ≡ pos d) × (suc i * 100 ≤ c) × (c < suc (suc i) * 100)
     in-row i c m =
         let w = flatMap-mem (cellAt d i) (storedColumns G) m in
         let k = in-cell i (w .0) c (w .1) (w .2) in
         (k .0, omega (arith, k .1), omega (arith, k .1, column-bounds (w .1) .1, counted r 0 ok .columns-most))
 
-    in-level : (c : ℕ) → List·Memᴰ c (codesAt G vs d) → depthOf r c ≡ pos d
+    in-level : (c : ℕ) → List·Memᴰ c (codesAt G vs d) → depthOfCode r c ≡ pos d
     in-level c m = let w = flatMap-mem (rowAt d) (layersOf G) m in in-row (w .0) c (w .2) .0
 
     -- within a level the codes rise
-    tied : (a b : ℕ) → depthOf r a ≡ pos d → depthOf r b ≡ pos d → a ≤ b → mayPrecede r a b ≡ true
+    tied : (a b : ℕ) → depthOfCode r a ≡ pos d → depthOfCode r b ≡ pos d → a ≤ b → mayPrecede r a b ≡ true
     tied a b p q h = may-precede r a b d d p q (inr (refl, h))
 
     alone : (t : Bool) (c : ℕ) → inOrder (mayPrecede r) (cond t (c ∷ []) []) ≡ true

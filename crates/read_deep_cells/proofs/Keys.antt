@@ -33,7 +33,7 @@ use Rattle.slot_places.specs.Depths.{Depths}
 use Rattle.slot_places.specs.Drawdowns.{depth-place, depth-unused}
 use Rattle.readings.specs.Readings.{isDeeper, deepCodes}
 use Rattle.read_deep_cells.specs.Codes.{codeOf, keyBy, keyOf, below, deepAt, Shallow, Arrangement}
-use Rattle.read_deep_cells.specs.Order.{depthOf, mayPrecede, inOrder}
+use Rattle.read_deep_cells.specs.Order.{depthOfCode, mayPrecede, inOrder}
 use Rattle.read_deep_cells.proofs.Ordered.{order-map, order-from, order-rising}
 use Rattle.read_deep_cells.proofs.Slots.{sum-below, below-ext, deepSlot, stored, not-stored, codes, counted}
 use Rattle.read_deep_cells.proofs.Deep.{may-precede, codeDepth, code-depth, only-list}
@@ -90,8 +90,8 @@ module _ (r : Record) (D : ℕ) (ok : valid r ≡ true) (ds : List ℕ) (e : Dep
   left-code k h = omega (arith, few)
 
   -- a deep slot has a cell, whose D its key holds
-  slot-depth : (k : ℕ) → k < n → deepAt D ds k ≡ true → depthOf r (codeOf k) ≡ pos (getD ds k 0)
-  unfolding depthOf codeOf deepAt
+  slot-depth : (k : ℕ) → k < n → deepAt D ds k ≡ true → depthOfCode r (codeOf k) ≡ pos (getD ds k 0)
+  unfolding depthOfCode codeOf deepAt
   slot-depth k h t = ⊎-elim
       (λ lt. ap₂ (λ i j. drawdown (networkOf (gridOf r)) (stateOf r .losses) (place (gridOf r) i j)) layer column ∙ sym (in-slot r ok ds e k h lt))
       (λ le. absurd (omega (arith, depth-unused r (valid-record r ok) ds e k h le, ltb-true D (getD ds k 0) t)))

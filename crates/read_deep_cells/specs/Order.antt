@@ -20,16 +20,16 @@ unfoldable pub times : ℕ → List ℕ → ℕ
 times c l = sumℕ l λ x. ifℕ (eqb x c) 1
 
 -- D of the cell that the code c names, µm
-unfoldable pub depthOf : Record → ℕ → ℤ
-depthOf r c = drawdown (networkOf (gridOf r)) (stateOf r .losses) (place (gridOf r) (c / 100 - 1) (c % 100))
+unfoldable pub depthOfCode : Record → ℕ → ℤ
+depthOfCode r c = drawdown (networkOf (gridOf r)) (stateOf r .losses) (place (gridOf r) (c / 100 - 1) (c % 100))
 
--- c is that of an upper layer than d, or of the same layer and no column further out: by layer rising, then column rising
+-- the code c names a layer above that of d, or the same layer and no column further out: by layer rising, then column rising
 unfoldable pub inPlaceOrder : ℕ → ℕ → Bool
 inPlaceOrder c d = ltb (c / 100) (d / 100) || eqb (c / 100) (d / 100) && leb (c % 100) (d % 100)
 
 -- c may stand before d: by drawdown falling, then in the order of places
 unfoldable pub mayPrecede : Record → ℕ → ℕ → Bool
-mayPrecede r c d = ltZ (depthOf r d) (depthOf r c) || equalℤ (depthOf r d) (depthOf r c) && inPlaceOrder c d
+mayPrecede r c d = ltZ (depthOfCode r d) (depthOfCode r c) || equalℤ (depthOfCode r d) (depthOfCode r c) && inPlaceOrder c d
 
 -- each element of a list may stand before every later one
 unfoldable pub inOrder : (ℕ → ℕ → Bool) → List ℕ → Bool

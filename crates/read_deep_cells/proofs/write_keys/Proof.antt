@@ -79,11 +79,12 @@ loop-again c =
     let D = s .args .depth in
     let ds = now (s .args .depths) in
     ⊎-elim
-    (λ w. (
+    (λ w.
+    let made : w .3 .result ≡ keyBy (getD ds (at .loop .k) 0) (w .2 .result) = w .3 .ensures in (
       omega arith,
       omega arith,
       omega (arith, counted D ds (keyOf ds) (at .loop .k) (sym (c .before .is-deep .ensures) ∙ w .0 .taken)),
-      w .4 ∙ written D ds (keyOf ds) (at .loop .k) (sym (c .before .is-deep .ensures) ∙ w .0 .taken) (s .args .n) (now (s .args .list)) (omega arith) (omega (arith, s .pre .1)) (at .loop .inv .2) (at .loop .inv .3) (key-is ds (at .loop .k) (w .3 .ensures) (w .2 .ensures)),
+      w .4 ∙ written D ds (keyOf ds) (at .loop .k) (sym (c .before .is-deep .ensures) ∙ w .0 .taken) (s .args .n) (now (s .args .list)) (omega arith) (omega (arith, s .pre .1)) (at .loop .inv .2) (at .loop .inv .3) (key-is ds (at .loop .k) made (w .2 .ensures)),
     ))
     (λ w. (
       omega arith,
