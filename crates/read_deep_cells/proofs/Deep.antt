@@ -34,7 +34,7 @@ use Rattle.validity.specs.Laws.{Valid, valid-record, valid-proper}
 use Rattle.readings.specs.Readings.{isDeeper, isDeepCode, deepCount, codesAt, deepCodes}
 use Rattle.read_deep_cells.specs.Order.{times, depthOfCode, inPlaceOrder, mayPrecede, inOrder, Arranged}
 use Rattle.read_deep_cells.proofs.Ordered.{unique, order-none, order-one, order-flatMap, order-range, order-falling}
-use Rattle.read_deep_cells.proofs.Slots.{length-sum, counted, codes, sum-codes, count-codes, times-codes}
+use Rattle.read_deep_cells.proofs.Slots.{length-sum, one-if, counted, codes, sum-codes, count-codes, times-codes}
 
 -- ---- levels of drawdown
 
@@ -61,17 +61,12 @@ one-level D a x (suc n) = elim (ℕ-discrete a (D + suc n)) [
     same-below f = same-test (leb a (D + n)) (leb a (D + suc n)) (λ q. le-leb a (D + suc n) (omega (arith, leb-true a (D + n) q)))
         (λ q. ⊎-elim (λ h. le-leb a (D + n) (omega arith)) (λ h. absurd (f (omega (arith, leb-true a (D + suc n) q)))) (below-or-not a (D + suc n)))
 
--- where D is at most the limit, the levels up to it have it if it is above D
+-- where a is at most the limit, the levels from there down have it if it is above D
 a-level : (D a x : ℕ) → a ≤ drawdownLimit → sumℕ (falling D (drawdownLimit - D)) (λ d. ifℕ (eqb a d) x) ≡ ifℕ (ltb D a) x
 unfolding ifℕ
 a-level D a x h = one-level D a x (drawdownLimit - D) ∙ ap (λ t. ifℕ t x) (same-test (ltb D a && leb a (D + (drawdownLimit - D))) (ltb D a)
     (λ q. and-left (ltb D a) (leb a (D + (drawdownLimit - D))) q)
     (λ q. both-hold q (le-leb a (D + (drawdownLimit - D)) (omega (arith, ltb-true D a q)))))
-
-one-if : (t : Bool) (c : ℕ) (g : ℕ → ℕ) → sumℕ (cond t (c ∷ []) []) g ≡ ifℕ t (g c)
-unfolding sumℕ ifℕ
-one-if true c g = add-zero (g c)
-one-if false c g = refl
 
 in-one : (t : Bool) (c x : ℕ) → List·Memᴰ x (cond t (c ∷ []) []) → (t ≡ true) × (x ≡ c)
 in-one true c x m = (refl, ⊎-elim (λ e. e) (λ n. absurd (List·Memᴰ·not-nil n)) (List·Memᴰ·cases-cons m))
@@ -107,7 +102,7 @@ rises-code a b e = ⊎-elim
 module _ (r : Record) (a b x y : ℕ) (ea : depthOfCode r a ≡ pos x) (eb : depthOfCode r b ≡ pos y) where
   precede-is : mayPrecede r a b ≡ (ltb y x || (leb y x && leb x y) && inPlaceOrder a b)
   unfolding mayPrecede
-  precede-is = rw (ea, eb)
+  precede-is = rw (ea, eb) refl
 
   pub may-precede : (y < x) ⊎ ((x ≡ y) × (a ≤ b)) → mayPrecede r a b ≡ true
   may-precede h = precede-is ∙ ⊎-elim

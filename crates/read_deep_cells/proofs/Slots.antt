@@ -39,6 +39,11 @@ unfolding sumℕ
 length-sum [] = refl
 length-sum (a ∷ l) = omega (arith, length-sum l)
 
+pub one-if : (t : Bool) (c : ℕ) (g : ℕ → ℕ) → sumℕ (cond t (c ∷ []) []) g ≡ ifℕ t (g c)
+unfolding sumℕ ifℕ
+one-if true c g = add-zero (g c)
+one-if false c g = refl
+
 module _ (t : ℕ → Bool) (f : ℕ → ℕ) where
   pub below-none : below t f 0 ≡ []
   unfolding below
@@ -54,15 +59,11 @@ module _ (t : ℕ → Bool) (f : ℕ → ℕ) where
   below-same n e = rw (add-one n, e) (append-nil (below t f n))
 
   pub sum-below : (g : ℕ → ℕ) (n : ℕ) → sumℕ (below t f n) g ≡ sumℕ (range 0 n) (λ k. ifℕ (t k) (g (f k)))
-  unfolding below sumℕ range ifℕ
+  unfolding below sumℕ range
   sum-below g zero = refl
   sum-below g (suc n) =
-      sumℕ-append (below t f n) (cond (t n) (f n ∷ []) []) g ∙ ap₂ _+_ (sum-below g n) (one (t n))
+      sumℕ-append (below t f n) (cond (t n) (f n ∷ []) []) g ∙ ap₂ _+_ (sum-below g n) (one-if (t n) (f n) g)
       ∙ sym (ap (λ m. sumℕ (range 0 m) (λ k. ifℕ (t k) (g (f k)))) (sym (add-one n)) ∙ sum-more (λ k. ifℕ (t k) (g (f k))) n)
-    where
-      one : (b : Bool) → sumℕ (cond b (f n ∷ []) []) g ≡ ifℕ b (g (f n))
-      one true = add-zero (g (f n))
-      one false = refl
 
   pub length-below : (n : ℕ) → length (below t f n) ≡ sumℕ (range 0 n) (λ k. ifℕ (t k) 1)
   length-below n = length-sum (below t f n) ∙ sum-below (λ x. 1) n

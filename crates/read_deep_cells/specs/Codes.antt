@@ -12,13 +12,17 @@ use Rattle.read_order.specs.Sorted.{Rising, Rearranged}
 unfoldable pub codeOf : ℕ → ℕ
 codeOf k = (k / 50 + 1) * 100 + k % 50 + 1
 
--- no D is above the limit, so that a key is a number
+-- no D is above the limit, so that the difference in a key is one
 abbrev pub Shallow : List ℕ → Type 0
 Shallow ds = (k : ℕ) → getD ds k 0 ≤ drawdownLimit
 
--- the key of a cell by its D and its code: smaller where D is greater, and at equal D where the code is smaller; the code is what is left of it
+-- above every code
+abbrev pub codeLimit : ℕ
+codeLimit = 10000
+
+-- the key of a cell by its D and its code: smaller where D is greater, and at equal D where the code is smaller; its remainder by codeLimit is the code
 unfoldable pub keyBy : ℕ → ℕ → ℕ
-keyBy D c = (drawdownLimit - D) * 10000 + c
+keyBy D c = (drawdownLimit - D) * codeLimit + c
 
 -- that of the cell of slot k, whose D stands in ds
 unfoldable pub keyOf : List ℕ → ℕ → ℕ
@@ -38,4 +42,4 @@ pub record Arrangement (D : ℕ) (ds : List ℕ) (n : ℕ) (l : List ℕ) : Type
   pub keys : List ℕ
   pub rising : Rising 1 (length keys) keys
   pub same : Rearranged (below (deepAt D ds) (keyOf ds) n) keys
-  pub codes : l ≡ map (λ x. x % 10000) keys
+  pub codes : l ≡ map (λ x. x % codeLimit) keys

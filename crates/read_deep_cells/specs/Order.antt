@@ -36,7 +36,7 @@ unfoldable pub inOrder : (ℕ → ℕ → Bool) → List ℕ → Bool
 inOrder t [] = true
 inOrder t (a ∷ l) = every (t a) l && inOrder t l
 
--- a list has the code of each cell deeper than D once, and no other, in that order
+-- a list has the code of each cell deeper than D, µm, once, and no other, in that order
 pub record Arranged (r : Record) (D : ℕ) (l : List ℕ) : Type 0 where
   pub once : (c : ℕ) → times c l ≡ ifℕ (isDeepCode r D c) 1
   pub order : inOrder (mayPrecede r) l ≡ true

@@ -9,9 +9,10 @@ ghost use mathlib.Core.Path.{_≡_};
 ghost use mathlib.Core.List.{List, map};
 ghost use Prim.Native.Nat.{ℕ, _≤_, _<_, _%_};
 ghost use lib.ListN.{length};
+ghost use Rattle.limits.specs.Limits.{drawdownLimit};
 ghost use Rattle.record.specs.declared.Record.{Record};
 ghost use Rattle.readings.specs.Readings.{deepRefusal, deepOf};
-ghost use Rattle.read_deep_cells.specs.Codes.{codeOf, keyBy, keyOf, below, deepAt, Shallow, Arrangement};
+ghost use Rattle.read_deep_cells.specs.Codes.{codeOf, codeLimit, keyBy, keyOf, below, deepAt, Shallow, Arrangement};
 ghost use Rattle.read_deep_cells.specs.Order.{Whole};
 
 // Above every code: a layer is at most 20 and a stored column at most 49.
@@ -26,9 +27,9 @@ fn code(k: usize) -> u64
 }
 
 // Of two cells the one with the smaller key comes first: the deeper one, and of two that are equally deep the one with the smaller code. That is
-// the one of the upper layer, and within a layer the one of the inner column, since no column is above 49.
+// the one of the upper layer, and within a layer the one of the inner column, since no stored column is above 49.
 fn key(depth: u64, code: u64) -> u64
-    requires { ⌜ (depth ≤ 1000000000) × (code < 10000) ⌝ }
+    requires { ⌜ (depth ≤ drawdownLimit) × (code < codeLimit) ⌝ }
     ensures { λ r. ⌜ r ≡ keyBy depth code ⌝ }
 {
     let above = DRAWDOWN_LIMIT - depth;
@@ -79,7 +80,7 @@ fn write_keys(depths: &[u64; CELL_PLACES], depth: u64, n: usize, list: &mut [u64
 
 // Leaves of each key its code.
 fn keep_codes(list: &mut [u64])
-    ensures { λ _. ⌜ now (list .exit) ≡ map (λ x. x % 10000) (now (list .entry)) ⌝ }
+    ensures { λ _. ⌜ now (list .exit) ≡ map (λ x. x % codeLimit) (now (list .entry)) ⌝ }
 {
     let mut k: usize = 0;
     while k < list.len() {

@@ -122,7 +122,7 @@ flowOf r a b dt =
     ∷ []))
     (waterFrom (gridOf r) (stateOf r .losses) dt a b)
 
--- ---- cells deeper than D, of a grid with the losses vs, and of a record
+-- ---- cells deeper than D, µm, of a grid with the losses vs, and of a record
 
 -- the cell of layer i, from 0, and column j is deeper
 abbrev pub isDeeperIn : Grid → List ℤ → ℕ → ℕ → ℕ → Bool
@@ -146,7 +146,7 @@ deepCount r D = deepCountIn (gridOf r) (stateOf r .losses) D
 unfoldable pub deepRefusal : Record → ℕ → ℕ → ℕ
 deepRefusal r D n = first ((not (valid r), 14) ∷ (ltb n (deepCount r D), 13) ∷ [])
 
--- layer×100+column of each cell with the drawdown d, by layer rising, then column rising
+-- layer×100+column of each cell with the drawdown d, µm, by layer rising, then column rising
 abbrev pub codesAt : Grid → List ℤ → ℕ → List ℕ
 codesAt G vs d =
     flatMap (λ i. flatMap (λ j. cond (equalℤ (drawdown (networkOf G) vs (place G i j)) (pos d)) ((suc i * 100 + j) ∷ []) []) (storedColumns G)) (layersOf G)

@@ -32,7 +32,7 @@ long at =
     let s = at .before .before in
     ap length (at .loop .inv .3) ∙ length-with _ (now (s .args .list)) (omega (arith, length-most (deepAt (s .args .depth) (now (s .args .depths))) (keyOf (now (s .args .depths))) (at .loop .k) (s .args .n) (omega arith)))
 
--- and the next code has its slot
+-- and the next key has its slot
 fits : (c : tie.Then1 Inv-loop μ-loop) → c .before .before .before .loop .at < length (c .before .before .before .loop .list)
 fits c =
     let at = c .before .before .before in
