@@ -12,7 +12,7 @@ use Rattle.read_order.specs.Sorted.{Rising, Rearranged}
 unfoldable pub codeOf : ℕ → ℕ
 codeOf k = (k / 50 + 1) * 100 + k % 50 + 1
 
--- no D is above the limit, so that the difference in a key is one
+-- no D is above the limit, so that the subtraction in a key is not cut off at 0
 abbrev pub Shallow : List ℕ → Type 0
 Shallow ds = (k : ℕ) → getD ds k 0 ≤ drawdownLimit
 
