@@ -8,11 +8,13 @@ enum { COLUMNS = 50, CELLS = 20 * COLUMNS };
 
 static int layers, columns;         /* the last column, at constant head, is counted */
 static double thickness;            /* of layer 1, m */
+static double top_k, second_k;      /* vertical conductivities of layers 1 and 2, m/s */
+static double second_half;          /* half the thickness of layer 2, m */
 static double well_storage;         /* m², as all storages: m³ per m of drawdown */
 static double well_loss;            /* m³, as all volumes */
 static double well_c[20];           /* conductance of a layer's face with the well, m²/s; 0 where it is not screened */
 static double across_c[CELLS];      /* of a cell's face with the next column, m²/s */
-static double down_c[CELLS];        /* of a cell's face with the layer below, m²/s */
+static double down_c[CELLS];        /* of a cell's face with the layer below, m²/s; below layer 1 while the water table is at its bottom */
 static double storage[CELLS];
 static double loss[CELLS];
 static double drawdown[CELLS];      /* at the start of the step, m; 0 in the last column */
@@ -32,6 +34,9 @@ static void read_grid(void) {
     layers = (int)number(1);
     columns = (int)number(1);
     thickness = number(1e-3);
+    top_k = number(1e-9);
+    second_half = number(0.5e-3);
+    second_k = number(1e-9);
     well_storage = number(1e-12);
     for (int row = 0; row < layers; row++) {
         well_c[row] = number(1e-12);
@@ -68,7 +73,10 @@ static void step(double rate, double length) {
         }
         if (row + 1 < layers)
             for (int at = first; at <= last; at++) {
-                water = down_c[at] * (drawdown[at + COLUMNS] - drawdown[at]) * length;
+                double c = down_c[at];
+                if (row == 0 && c > 0)
+                    c *= second_half * top_k / ((thickness - drawdown[at]) * second_k + second_half * top_k);
+                water = c * (drawdown[at + COLUMNS] - drawdown[at]) * length;
                 loss[at] += water;
                 loss[at + COLUMNS] -= water;
             }

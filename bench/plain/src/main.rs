@@ -2,6 +2,7 @@
 //! 14, 7 and 8 are judged once an entry, 9 to 11 at every step, and the losses are updated in place. With the word `numbers` it prints
 //! instead what the step in double precision (double.c) reads.
 
+use reference_model::geometry;
 use reference_model::limits::{self, CELLS, COLUMNS};
 use reference_model::record::{self, Record};
 use reference_model::refusal::Refusal;
@@ -31,9 +32,30 @@ fn water_table_conductance(conductance: u64, thickness: u64, from: i64, to: i64)
     (u128::from(conductance) * u128::from(full - from as u64 - to as u64) / u128::from(full)) as u64
 }
 
+/// A_j × 1000 × Kv_1 × Kv_2 of the stored columns, what the C between layers 1 and 2 is a quotient of.
+fn top_dividends(record: &Record) -> [u128; COLUMNS] {
+    let (site, mut dividends) = (record.site(), [0; COLUMNS]);
+    for (at, dividend) in dividends[..site.columns() - 1].iter_mut().enumerate() {
+        let area = geometry::area(site.radius(at), site.radius(at + 1));
+        *dividend = area * 1000 * u128::from(record.vertical[0]) * u128::from(record.vertical[1]);
+    }
+    dividends
+}
+
+/// C between layers 1 and 2 from the water table to the centre of layer 2, 10^-12 m²/s, of its dividend and D of the cell in layer 1, µm.
+fn top_vertical_conductance(dividend: u128, record: &Record, top_drawdown: i64) -> u64 {
+    if dividend == 0 {
+        return 0;
+    }
+    let saturated = 1000 * record.thickness[0] - top_drawdown as u64;
+    let divisor = saturated * record.vertical[1] + 500 * record.thickness[1] * record.vertical[0];
+    (dividend / u128::from(divisor)) as u64
+}
+
 /// A model in a run.
 struct Run {
     record: Record,
+    top_dividends: [u128; COLUMNS],
     /// D of the well at the start of the step, µm.
     well_drawdown: i64,
     /// D of the cells, one at each slot of the record; 0 in the last column.
@@ -90,7 +112,7 @@ impl Run {
         let layers = self.record.layers as usize;
         for row in 0..layers {
             let slots = self.slots(row);
-            let Run { record, well_drawdown, drawdown } = self;
+            let Run { record, top_dividends, well_drawdown, drawdown } = self;
             let into_well = SIGN * flow(record.well_c[row], *well_drawdown, drawdown[slots.start], length);
             record.well_loss += into_well;
             record.cell_loss[slots.start] -= into_well;
@@ -112,7 +134,12 @@ impl Run {
             if row + 1 < layers {
                 for at in slots {
                     let below = at + COLUMNS;
-                    let downward = SIGN * flow(record.down_c[at], drawdown[at], drawdown[below], length);
+                    let conductance = if row == 0 {
+                        top_vertical_conductance(top_dividends[at], record, drawdown[at])
+                    } else {
+                        record.down_c[at]
+                    };
+                    let downward = SIGN * flow(conductance, drawdown[at], drawdown[below], length);
                     record.cell_loss[at] += downward;
                     record.cell_loss[below] -= downward;
                 }
@@ -145,7 +172,7 @@ impl Run {
 /// The listing of a run from its start.
 fn listing(record: Record, pumping: &[Entry], out: &mut impl Write) -> io::Result<()> {
     writeln!(out, "entry us well pumped wellloss cellloss inflow")?;
-    let mut run = Run { record, well_drawdown: 0, drawdown: [0; CELLS] };
+    let mut run = Run { top_dividends: top_dividends(&record), record, well_drawdown: 0, drawdown: [0; CELLS] };
     for (above, &entry) in pumping.iter().enumerate() {
         match run.entry(entry) {
             Ok(()) => writeln!(out, "{}", run.line(above + 1))?,
@@ -155,10 +182,14 @@ fn listing(record: Record, pumping: &[Entry], out: &mut impl Write) -> io::Resul
     Ok(())
 }
 
-/// What double.c reads: counts, b_1 (mm), S of the well (nl per m); C (10^-12 m²/s) of each layer's face with the well; of each stored
-/// cell C outward, C downward and S; the entries.
+/// What double.c reads: counts; b_1 (mm), Kv_1 (nm/s), b_2, Kv_2; S of the well (nl per m); C (10^-12 m²/s) of each layer's face with the
+/// well; of each stored cell C outward, C downward and S; the entries.
 fn numbers(record: &Record, pumping: &[Entry], out: &mut impl Write) -> io::Result<()> {
-    writeln!(out, "{} {} {} {}", record.layers, record.columns, record.thickness[0], record.well_s)?;
+    writeln!(out, "{} {}", record.layers, record.columns)?;
+    for row in 0..2 {
+        writeln!(out, "{} {}", record.thickness[row], record.vertical[row])?;
+    }
+    writeln!(out, "{}", record.well_s)?;
     for row in 0..record.layers as usize {
         writeln!(out, "{}", record.well_c[row])?;
         for at in row * COLUMNS..row * COLUMNS + record.columns as usize - 1 {

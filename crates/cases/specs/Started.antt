@@ -8,8 +8,8 @@ use Rattle.laws.specs.Lists.{first, allBelow, every, padded, range}
 use Rattle.laws.specs.Refusal.{first-after}
 use Rattle.decimal.specs.Decimal.{isDigit, value, noLeadingZero, numeral, digitsIn, digitsOf}
 use Rattle.text.specs.Text.{prefixed, pieces, lines, unended, wellFormed, numbers}
-use Rattle.network.specs.Grid.{layersOf, upperLayers, storedColumns, place, placeCount, acrossFace, downFace, screenFaces, facesOf}
-use Rattle.geometry.specs.Geometry.{terms, ratio, seriesLogarithm, logarithm, area, horizontal, vertical, unconfinedStorage, confinedStorage, wellStorage}
+use Rattle.network.specs.Grid.{layersOf, upperLayers, storedColumns, place, placeCount, acrossRule, downRule, acrossFace, downFace, screenFaces, facesOf}
+use Rattle.geometry.specs.Geometry.{terms, ratio, seriesLogarithm, logarithm, area, horizontal, fromTable, unconfinedStorage, confinedStorage, wellStorage}
 use Rattle.site.specs.Columns.{logarithmAt, areaAt}
 use Rattle.site.specs.Site.{isScreened, midsection, layerTop, topmostScreened, storageHolds, layerHolds, layerAt, wellHolds, numbersHold, columnRises, radiiHold, screenHolds}
 use Rattle.sections.specs.Sections.{sectionCount, sectionOf, restOf, sectionTests, fromColumns, fromWell, fromLoss, fromPumping, leftOver, formTests, field, siteOf, repeatsHold}
@@ -50,7 +50,7 @@ unfolding numbersK padded range isScreened layerTop topmostScreened screenHolds 
 screen-K = refl
 
 coefficients-K : coefficientsHold (scenarioGrid (siteOf numbersK)) ≡ true
-unfolding numbersK every padded range flatMap layersOf upperLayers storedColumns place placeCount acrossFace downFace screenFaces facesOf terms ratio seriesLogarithm logarithm area horizontal vertical unconfinedStorage confinedStorage wellStorage isScreened midsection sectionCount sectionOf restOf fromColumns fromWell fromLoss field siteOf conductancesHold storagesHold coefficientsHold logarithmAt areaAt acrossOf downOf storageOf scenarioGrid
+unfolding numbersK every padded range flatMap layersOf upperLayers storedColumns place placeCount acrossRule downRule acrossFace downFace screenFaces facesOf terms ratio seriesLogarithm logarithm area horizontal fromTable unconfinedStorage confinedStorage wellStorage isScreened midsection sectionCount sectionOf restOf fromColumns fromWell fromLoss field siteOf conductancesHold storagesHold coefficientsHold logarithmAt areaAt acrossOf downOf storageOf scenarioGrid
 coefficients-K = refl
 
 numbers-pass : first (numberTests (siteOf numbersK) (repeatsHold numbersK)) ≡ 0

@@ -1,14 +1,14 @@
--- The cases that document 01 marks K: what the definitions give for bore K beside what the document says, and one statement.
+-- The cases that document 01 marks K, with what document 02 changes of them: what the definitions give for bore K beside what the documents say, and one
+-- statement.
 use mathlib.Core.Path.{_≡_, refl, sym, ap, ap₂, subst, fun-ext, _∙_}
-use mathlib.Core.Bool.{true, false}
 use mathlib.Core.List.{List, [], _∷_, _++_, map, map-append, flatMap}
 use Prim.Native.Nat.{ℕ, zero, suc}
 use lib.IntN.{ℤ, pos, negℤ}
 use lib.ListN.{getD}
 use Rattle.laws.specs.Lists.{allBelow, padded, first, ifℕ, ifℤ, sumℕ, sumℤ, range, some}
-use Rattle.network.specs.Network.{Network, State, atRest, isPlace, lossAt, storageAt, drawdown, saturated, inUse, water, crossing, flow, outflow, toward, inward, lossAfter, lossesAfter, fromLastColumn, moved, lengthOut, rateOrLengthOut, conductanceSum, stable, unstable, totalsPass, wellTooDeep, tableTooDeep, stepTests, refusal}
-use Rattle.network.specs.Grid.{Grid, layersOf, upperLayers, storedColumns, place, placeCount, onePerPlace, acrossFace, downFace, screenFaces, facesOf, networkOf}
-use Rattle.geometry.specs.Geometry.{terms, ratio, seriesLogarithm, logarithm, area, horizontal, vertical, unconfinedStorage, confinedStorage, wellStorage}
+use Rattle.network.specs.Network.{Rule, Network, State, atRest, isPlace, lossAt, storageAt, drawdown, saturated, atTable, inUseBy, inUse, water, crossing, flow, outflow, toward, inward, lossAfter, lossesAfter, fromLastColumn, moved, lengthOut, rateOrLengthOut, conductanceSum, stable, unstable, totalsPass, wellTooDeep, tableTooDeep, stepTests, refusal}
+use Rattle.network.specs.Grid.{Grid, layersOf, upperLayers, storedColumns, place, placeCount, onePerPlace, acrossRule, downRule, acrossFace, downFace, screenFaces, facesOf, networkOf}
+use Rattle.geometry.specs.Geometry.{terms, ratio, seriesLogarithm, logarithm, area, horizontal, fromTable, unconfinedStorage, confinedStorage, wellStorage}
 use Rattle.site.specs.declared.Site.{Site}
 use Rattle.site.specs.Columns.{logarithmAt, areaAt}
 use Rattle.site.specs.Site.{isScreened, midsection}
@@ -27,7 +27,7 @@ use Rattle.start_laws.specs.Steps.{stateAfter, outcome-is, carries-on}
 use Rattle.cases.specs.BoreK.{boreK, numbersK}
 use Rattle.cases.specs.Started.{scenario-K, started}
 
--- a row: what the definitions give, and what the document says
+-- a row: what the definitions give, and what the documents say
 abbrev pub Row : Type 0
 Row = ℤ × ℤ
 
@@ -46,7 +46,7 @@ startRows answer =
     ∷ (pos (getD (r .screen) 1 0), pos 1143840361)  -- C of layer 2, well and column 1
     ∷ (pos (getD (r .horizontal) (slot 1 1) 0), pos 1143840361)  -- C of layer 2, columns 1 and 2
     ∷ (pos (getD (r .horizontal) (slot 0 1) 0), pos 5719201805)  -- C of layer 1, columns 1 and 2
-    ∷ (pos (getD (r .vertical) (slot 0 1) 0), pos 1256636)  -- C of column 1, layers 1 and 2
+    ∷ (pos (getD (r .vertical) (slot 0 1) 0), pos 7539820)  -- C of column 1, layers 1 and 2: the value at s = 0 (N6)
     ∷ (pos (getD (r .storages) (slot 0 1) 0), pos 150796400000)  -- S of layer 1
     ∷ (pos (getD (r .storages) (slot 1 1) 0), pos 1507964000)  -- S of layer 2
     ∷ []
@@ -54,8 +54,8 @@ startRows answer =
 -- the rows for a first step of 1000 ml/s, by the number of its outcome for so many µs
 unfoldable pub lengthRows : (ℕ → ℕ) → List Row
 lengthRows outcome =
-    (pos (outcome 658805), pos 0)  -- taken
-    ∷ (pos (outcome 658806), pos 8)
+    (pos (outcome 657001), pos 0)  -- taken
+    ∷ (pos (outcome 657002), pos 8)
     ∷ []
 
 -- the rows for the faces of the third step, from the losses before it. Water is that from the first end named to the second.
@@ -63,12 +63,13 @@ unfoldable pub faceRows : Grid → Network → List ℤ → List Row
 faceRows G N vs =
     (flow N vs 500000 (acrossFace G 1 0), negℤ (pos 15267409))  -- layer 2, from the well to column 1: it runs the other way
     ∷ (flow N vs 500000 (acrossFace G 1 1), negℤ (pos 3614535))  -- layer 2, from column 1 to the last column: it runs the other way
-    ∷ (flow N vs 500000 (downFace G 0 1), pos 3970)  -- column 1, from layer 1 to layer 2
+    ∷ (flow N vs 500000 (downFace G 0 1), pos 2165)  -- column 1, from layer 1 to layer 2
+    ∷ (inUse N (downFace G 0 1) (drawdown N vs (place G 0 1)) (drawdown N vs (place G 1 1)), pos 685438)  -- C in use of that face, at D 0 in layer 1 (N6)
     ∷ []
 
 -- the row for layer 2 after it, from the losses then
 unfoldable pub depthRows : Grid → Network → List ℤ → List Row
-depthRows G N vs = (drawdown N vs (place G 1 1), pos 14045) ∷ []
+depthRows G N vs = (drawdown N vs (place G 1 1), pos 14046) ∷ []
 
 -- the record after n steps of 1000 ml/s for 500000 µs each
 unfoldable pub pumped : ℕ → Record → Record
@@ -100,10 +101,10 @@ unfoldable networkK : Network
 networkK = record {
   places = 3;
   faces =
-      record { one = 1; two = 3; conductance = 5719201805; unconfined = true }
-      ∷ record { one = 0; two = 2; conductance = 1143840361; unconfined = false }
-      ∷ record { one = 2; two = 3; conductance = 1143840361; unconfined = false }
-      ∷ record { one = 1; two = 2; conductance = 1256636; unconfined = false }
+      record { one = 1; two = 3; conductance = 5719201805; rule = Rule.unconfined }
+      ∷ record { one = 0; two = 2; conductance = 1143840361; rule = Rule.fixed }
+      ∷ record { one = 2; two = 3; conductance = 1143840361; rule = Rule.fixed }
+      ∷ record { one = 1; two = 2; conductance = 7539820; rule = Rule.table 753982 10000 2000 10000 }
       ∷ [];
   storages = 30000000000 ∷ 150796400000 ∷ 1507964000 ∷ [];
   thickness = 10000;
@@ -122,13 +123,13 @@ unfoldable state2 : State
 state2 = record { losses = pos 990468379 ∷ pos 0 ∷ pos 9531621 ∷ []; pumped = 1000000000; inflow = pos 0; time = 1000000 }
 
 unfoldable state3 : State
-state3 = record { losses = pos 1475200970 ∷ pos 3970 ∷ pos 21180525 ∷ []; pumped = 1500000000; inflow = pos 3614535; time = 1500000 }
+state3 = record { losses = pos 1475200970 ∷ pos 2165 ∷ pos 21182330 ∷ []; pumped = 1500000000; inflow = pos 3614535; time = 1500000 }
 
 abbrev siteK : Site
 siteK = siteOf numbersK
 
 network-K : networkOf (scenarioGrid siteK) ≡ networkK
-unfolding networkK numbersK padded range flatMap layersOf upperLayers storedColumns place placeCount onePerPlace acrossFace downFace screenFaces facesOf networkOf terms ratio seriesLogarithm logarithm area horizontal vertical unconfinedStorage confinedStorage wellStorage isScreened midsection sectionCount sectionOf restOf fromColumns fromWell fromLoss field siteOf logarithmAt areaAt acrossOf downOf storageOf scenarioGrid
+unfolding networkK numbersK padded range flatMap layersOf upperLayers storedColumns place placeCount onePerPlace acrossRule downRule acrossFace downFace screenFaces facesOf networkOf terms ratio seriesLogarithm logarithm area horizontal fromTable unconfinedStorage confinedStorage wellStorage isScreened midsection sectionCount sectionOf restOf fromColumns fromWell fromLoss field siteOf logarithmAt areaAt acrossOf downOf storageOf scenarioGrid
 network-K = refl
 
 rest-K : atRest networkK ≡ state0
@@ -136,20 +137,20 @@ unfolding networkK atRest state0
 rest-K = refl
 
 first-K : stateAfter networkK state0 1000 500000 ≡ state1
-unfolding allBelow first ifℕ ifℤ sumℕ sumℤ range some isPlace lossAt storageAt drawdown saturated inUse water crossing flow outflow toward inward lossAfter lossesAfter fromLastColumn moved lengthOut rateOrLengthOut conductanceSum stable unstable totalsPass wellTooDeep tableTooDeep stepTests refusal networkK state0 state1
+unfolding fromTable allBelow first ifℕ ifℤ sumℕ sumℤ range some isPlace lossAt storageAt drawdown saturated atTable inUseBy inUse water crossing flow outflow toward inward lossAfter lossesAfter fromLastColumn moved lengthOut rateOrLengthOut conductanceSum stable unstable totalsPass wellTooDeep tableTooDeep stepTests refusal networkK state0 state1
 first-K = refl
 
 second-K : stateAfter networkK state1 1000 500000 ≡ state2
-unfolding allBelow first ifℕ ifℤ sumℕ sumℤ range some isPlace lossAt storageAt drawdown saturated inUse water crossing flow outflow toward inward lossAfter lossesAfter fromLastColumn moved lengthOut rateOrLengthOut conductanceSum stable unstable totalsPass wellTooDeep tableTooDeep stepTests refusal networkK state1 state2
+unfolding fromTable allBelow first ifℕ ifℤ sumℕ sumℤ range some isPlace lossAt storageAt drawdown saturated atTable inUseBy inUse water crossing flow outflow toward inward lossAfter lossesAfter fromLastColumn moved lengthOut rateOrLengthOut conductanceSum stable unstable totalsPass wellTooDeep tableTooDeep stepTests refusal networkK state1 state2
 second-K = refl
 
 third-K : stateAfter networkK state2 1000 500000 ≡ state3
-unfolding allBelow first ifℕ ifℤ sumℕ sumℤ range some isPlace lossAt storageAt drawdown saturated inUse water crossing flow outflow toward inward lossAfter lossesAfter fromLastColumn moved lengthOut rateOrLengthOut conductanceSum stable unstable totalsPass wellTooDeep tableTooDeep stepTests refusal networkK state2 state3
+unfolding fromTable allBelow first ifℕ ifℤ sumℕ sumℤ range some isPlace lossAt storageAt drawdown saturated atTable inUseBy inUse water crossing flow outflow toward inward lossAfter lossesAfter fromLastColumn moved lengthOut rateOrLengthOut conductanceSum stable unstable totalsPass wellTooDeep tableTooDeep stepTests refusal networkK state2 state3
 third-K = refl
 
 -- the rows of start
 start-agrees : Agree (startRows (record { outcome = outcomeOf 0; «record» = startRecord siteK }))
-unfolding Agree startRows outcomeNumber outcomeOf numbersK padded range terms ratio seriesLogarithm logarithm area horizontal vertical unconfinedStorage confinedStorage isScreened midsection sectionCount sectionOf restOf fromColumns fromWell fromLoss field siteOf slot slots layerSlots isCell hasBelow hasScreen logarithmAt areaAt acrossOf downOf storageOf startRecord
+unfolding Agree startRows outcomeNumber outcomeOf numbersK padded range terms ratio seriesLogarithm logarithm area horizontal fromTable unconfinedStorage confinedStorage isScreened midsection sectionCount sectionOf restOf fromColumns fromWell fromLoss field siteOf slot slots layerSlots isCell hasBelow hasScreen logarithmAt areaAt acrossOf downOf storageOf startRecord
 start-agrees = refl
 
 answer-agrees : Agree (startRows (startOf boreK))
@@ -178,7 +179,7 @@ network-of r h = network-is h ∙ network-K
 
 -- the rows of the first step's length
 length-computed : Agree (lengthRows (λ dt. outcomeNumber (outcomeOf (refusal networkK state0 1000 dt))))
-unfolding Agree lengthRows outcomeNumber outcomeOf networkK state0 allBelow first ifℕ ifℤ sumℕ sumℤ range some lossAt storageAt drawdown saturated inUse water crossing flow outflow lossAfter lossesAfter lengthOut rateOrLengthOut conductanceSum stable unstable totalsPass wellTooDeep tableTooDeep stepTests refusal
+unfolding Agree lengthRows outcomeNumber outcomeOf networkK state0 fromTable allBelow first ifℕ ifℤ sumℕ sumℤ range some lossAt storageAt drawdown saturated atTable inUseBy inUse water crossing flow outflow lossAfter lossesAfter lengthOut rateOrLengthOut conductanceSum stable unstable totalsPass wellTooDeep tableTooDeep stepTests refusal
 length-computed = refl
 
 length-agrees : (r : Record) → InState state0 r → Agree (lengthRows (λ dt. outcomeNumber (stepOf r 1000 dt .outcome)))
@@ -186,7 +187,7 @@ length-agrees r h = subst (λ f. Agree (lengthRows f)) (sym (fun-ext (λ dt. ap 
 
 -- the rows of the third step
 faces-computed : Agree (faceRows (gridOf (startRecord siteK)) networkK (state2 .losses))
-unfolding Agree faceRows networkK state2 numbersK padded range place placeCount acrossFace downFace terms ratio seriesLogarithm logarithm area horizontal vertical isScreened midsection sectionCount sectionOf restOf fromColumns fromWell fromLoss field siteOf slot slots layerSlots isCell hasBelow hasScreen logarithmAt areaAt acrossOf downOf startRecord acrossIn gridOf lossAt storageAt drawdown saturated inUse water crossing flow
+unfolding Agree faceRows networkK state2 numbersK padded range place placeCount acrossRule downRule acrossFace downFace terms ratio seriesLogarithm logarithm area horizontal fromTable isScreened midsection sectionCount sectionOf restOf fromColumns fromWell fromLoss field siteOf slot slots layerSlots isCell hasBelow hasScreen logarithmAt areaAt acrossOf downOf startRecord acrossIn gridOf lossAt storageAt drawdown saturated atTable inUseBy inUse water crossing flow
 faces-computed = refl
 
 faces-agree : (r : Record) → InState state2 r → Agree (faceRows (gridOf r) (networkOf (gridOf r)) (stateOf r .losses))
@@ -203,7 +204,7 @@ both : (l m : List Row) → Agree l → Agree m → Agree (l ++ m)
 unfolding Agree
 both l m p q = simp map-append (ap₂ _++_ p q)
 
--- every case of document 01 that is marked K
+-- every case that is marked K
 pub agrees : Agree table
 unfolding table rows
 agrees = both _ _ (both _ _ (both _ _ answer-agrees (length-agrees _ at-start)) (faces-agree _ after-2)) (depth-agrees _ after-3)

@@ -1,5 +1,6 @@
 // The changes, by group and number. Each is one number that document 01 limits, at its last allowed and its first forbidden value, or a few
 // numbers that go together. `before` is what stood there.
+// A change of R_0, R_1, b_2 or Kv_2 has bore K's C between layers 1 and 2 with it (document 02, N6): 2×A_1×Kv_2/b_2, rounded down.
 use record::Record;
 use site::Site;
 
@@ -60,6 +61,21 @@ pub fn layers(before: Site, case: u64) -> Site {
     site
 }
 
+// The C between layers 1 and 2 that goes with those changes.
+pub fn layers_below(before: Record, case: u64) -> Record {
+    let mut rec = before;
+    match case {
+        4 => rec.vertical[0] = 15079640000,
+        5 => rec.vertical[0] = 15079,
+        6 => rec.vertical[0] = 15079,
+        11 => rec.vertical[0] = 0,
+        12 => rec.vertical[0] = 75398200000,
+        13 => rec.vertical[0] = 75398200753,
+        _ => {}
+    }
+    rec
+}
+
 // R_1 and R_2.
 fn with_radii(before: Site, first: u64, second: u64) -> Site {
     let mut site = before;
@@ -105,6 +121,23 @@ pub fn numbers(before: Site, case: u64) -> Site {
     site
 }
 
+// The C between layers 1 and 2 that goes with those changes.
+pub fn numbers_below(before: Record, case: u64) -> Record {
+    let mut rec = before;
+    match case {
+        // the largest grid's, since no other text has so wide a well
+        6 => rec.vertical[0] = 4251,
+        14 => rec.vertical[0] = 7827560,
+        15 => rec.vertical[0] = 7825700,
+        16 => rec.vertical[0] = 90477860,
+        17 => rec.vertical[0] = 90584710,
+        26 => rec.vertical[0] = 7508430,
+        27 => rec.vertical[0] = 7539820,
+        _ => {}
+    }
+    rec
+}
+
 // Slots of the scenario's numbers that no layer, column or coefficient uses.
 pub fn unused(before: Site, case: u64) -> Site {
     let mut site = before;
@@ -123,6 +156,30 @@ pub fn unused(before: Site, case: u64) -> Site {
         12 => site.radii[49] = 1,
         13 => site.loss_coefficients[0] = 1,
         14 => site.loss_coefficients[1] = 1,
+        _ => {}
+    }
+    site
+}
+
+// Numbers that the C between layers 1 and 2 is worked from, changed without it: b_2, Kv_2, radii (R_49 is the largest grid's) and Kv_1 to
+// 0. Then numbers that have no part in it: Kv_1 above 0, within its limit and over it, b_1, and the last radius.
+pub fn alone(before: Site, case: u64) -> Site {
+    let mut site = before;
+    match case {
+        1 => site.thickness[1] = 1,
+        2 => site.thickness[1] = 1000000,
+        3 => site.kv[1] = 0,
+        4 => site.kv[1] = 100000000,
+        5 => site.well_radius = 30,
+        6 => site = with_radii(before, 1700, 2600),
+        7 => site = with_radii(before, 499, 1300),
+        8 => site.radii[48] = 1774145,
+        9 => site.kv[0] = 0,
+        10 => site.kv[0] = 1,
+        11 => site.kv[0] = 100000000,
+        12 => site.kv[0] = 100000001,
+        13 => site.thickness[0] = 10001,
+        14 => site.radii[49] = 1999999,
         _ => {}
     }
     site
@@ -170,7 +227,8 @@ fn with_coefficient(before: Record, coefficient: u64) -> Record {
     rec
 }
 
-// C in its limits, then in slots of layers without screen, of the last column, of no layer, and below the deepest one.
+// C in its limits, below layer 2 also where there is no layer 3; then in slots of layers without screen, of the last column, of no layer,
+// and below the deepest one.
 pub fn conductances(before: Record, case: u64) -> Record {
     let mut rec = before;
     match case {
@@ -182,10 +240,10 @@ pub fn conductances(before: Record, case: u64) -> Record {
         6 => rec.horizontal[0] = 1000000000000000,
         7 => rec.horizontal[0] = 1000000000000001,
         8 => rec.horizontal[50] = LARGEST,
-        9 => rec.vertical[0] = 0,
-        10 => rec.vertical[0] = 1000000000000000,
-        11 => rec.vertical[0] = 1000000000000001,
-        12 => rec.vertical[0] = LARGEST,
+        9 => rec.vertical[50] = 0,
+        10 => rec.vertical[50] = 1000000000000000,
+        11 => rec.vertical[50] = 1000000000000001,
+        12 => rec.vertical[50] = LARGEST,
         13 => rec.screen[0] = 1,
         14 => rec.screen[2] = 1,
         15 => rec.screen[19] = 1,
@@ -310,6 +368,59 @@ pub fn depths(before: Record, case: u64) -> Record {
         5 => with_state(thin, 0, 0, 1000000000, 0, 1000000000, 0),
         6 => with_state(thin, 0, 0, 1000000001, 0, 1000000001, 0),
         7 => with_state(empty, 0, 0, 4000000000000000000, 0, 4000000000000000000, 0),
+        _ => before,
+    }
+}
+
+// The slot of the C between layers 1 and 2 at its value for bore K and beside it, at document 01's value, at the C in use while layer 1 is
+// full, and at the limits of C; then that of the largest grid's last stored column, at its value and beside it.
+pub fn below(before: Record, case: u64) -> Record {
+    let mut rec = before;
+    match case {
+        1 => rec.vertical[0] = 7539820,
+        2 => rec.vertical[0] = 7539819,
+        3 => rec.vertical[0] = 7539821,
+        4 => rec.vertical[0] = 1256636,
+        5 => rec.vertical[0] = 685438,
+        6 => rec.vertical[0] = 0,
+        7 => rec.vertical[0] = 1000000000000000,
+        8 => rec.vertical[0] = 1000000000000001,
+        9 => rec.vertical[0] = LARGEST,
+        10 => rec.vertical[48] = 421452524,
+        11 => rec.vertical[48] = 421452523,
+        12 => rec.vertical[48] = 421452525,
+        _ => {}
+    }
+    rec
+}
+
+// Kv_1 and Kv_2 with the C between layers 1 and 2 that goes with them.
+fn with_verticals(before: Record, upper: u64, lower: u64, c: u64) -> Record {
+    let mut site = before.site;
+    site.kv[0] = upper;
+    site.kv[1] = lower;
+    let mut rec = before;
+    rec.site = site;
+    rec.vertical[0] = c;
+    rec
+}
+
+// Bore K's water table at the bottom of layer 1, above a layer 2 that is full and above one that is deeper, 1 µm above the bottom, and
+// halfway; another Kv_1; then a Kv of 0, with the table at the bottom and as it was.
+pub fn tables(before: Record, case: u64) -> Record {
+    let bottom = with_state(before, 0, 1507964000000, 0, 0, 1507964000000, 0);
+    let halfway = with_state(before, 0, 753982000000, 0, 0, 753982000000, 0);
+    match case {
+        1 => bottom,
+        2 => with_state(before, 0, 1507964000000, 18095568000, 0, 1526059568000, 0),
+        3 => with_state(before, 0, 1507963849204, 0, 0, 1507963849204, 0),
+        4 => halfway,
+        5 => with_verticals(bottom, 1, 10000, 7539820),
+        6 => with_verticals(halfway, 1, 10000, 7539820),
+        7 => with_verticals(bottom, 0, 10000, 0),
+        8 => with_verticals(bottom, 10000, 0, 0),
+        9 => with_verticals(bottom, 0, 0, 0),
+        10 => with_verticals(before, 0, 10000, 0),
         _ => before,
     }
 }

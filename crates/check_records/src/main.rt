@@ -44,25 +44,37 @@ fn changed_site(site: Site, group: u64, case: u64) -> Site {
         1 => changes::counts(site, case),
         2 => changes::layers(site, case),
         3 => changes::numbers(site, case),
-        _ => changes::unused(site, case),
+        4 => changes::unused(site, case),
+        _ => changes::alone(site, case),
+    }
+}
+
+// The C between layers 1 and 2 that goes with a change to the scenario's numbers.
+fn with_below(rec: Record, group: u64, case: u64) -> Record {
+    match group {
+        2 => changes::layers_below(rec, case),
+        3 => changes::numbers_below(rec, case),
+        _ => rec,
     }
 }
 
 fn changed(before: Record, group: u64, case: u64) -> Record {
     let mut rec = before;
     match group {
-        1..=4 => {
+        1..=5 => {
             let site = before.site;
             let other = changed_site(site, group, case);
             rec.site = other;
-            rec
+            with_below(rec, group, case)
         }
-        5 => changes::well(rec, case),
-        6 => changes::conductances(rec, case),
-        7 => changes::storages(rec, case),
-        8 => changes::sums(rec, case),
-        9 => changes::totals(rec, case),
-        _ => changes::depths(rec, case),
+        6 => changes::well(rec, case),
+        7 => changes::conductances(rec, case),
+        8 => changes::storages(rec, case),
+        9 => changes::sums(rec, case),
+        10 => changes::totals(rec, case),
+        11 => changes::depths(rec, case),
+        12 => changes::below(rec, case),
+        _ => changes::tables(rec, case),
     }
 }
 
@@ -83,12 +95,15 @@ fn print_groups(before: Record) {
     print_group(before, b"layers", 2, 21);
     print_group(before, b"numbers", 3, 27);
     print_group(before, b"unused", 4, 14);
-    print_group(before, b"well", 5, 10);
-    print_group(before, b"conductances", 6, 22);
-    print_group(before, b"storages", 7, 11);
-    print_group(before, b"sums", 8, 18);
-    print_group(before, b"totals", 9, 8);
-    print_group(before, b"depths", 10, 7);
+    print_group(before, b"well", 6, 10);
+    print_group(before, b"conductances", 7, 22);
+    print_group(before, b"storages", 8, 11);
+    print_group(before, b"sums", 9, 18);
+    print_group(before, b"totals", 10, 8);
+    print_group(before, b"depths", 11, 7);
+    print_group(before, b"below", 12, 12);
+    print_group(before, b"alone", 5, 14);
+    print_group(before, b"tables", 13, 10);
 }
 
 // The record after the steps of the first entry, as many of them as are taken.

@@ -11,7 +11,7 @@ use lib.ListN.{getD, replicate, length-replicate}
 use Rattle.laws.specs.Fill.{fill, getD-fill}
 use Rattle.words.specs.declared.Quotient.{Quotient}
 use Rattle.words.specs.Fitted.{fitted}
-use Rattle.geometry.specs.Geometry.{logarithm, area, horizontal, vertical, unconfinedStorage, confinedStorage}
+use Rattle.geometry.specs.Geometry.{logarithm, area, horizontal, vertical, fromTable, unconfinedStorage, confinedStorage}
 use Rattle.site.specs.declared.Site.{Site}
 use Rattle.site.specs.Columns.{logarithmAt, areaAt}
 use Rattle.site.specs.Site.{radiiOf, midsection}
@@ -51,14 +51,19 @@ module _ (s : Site) (i j : ℕ) where
   unfolding acrossOf
   across-is e = rw e
 
-  pub down-is : {a : ℕ} → a ≡ areaAt s j
-      → vertical a (getD (s .thickness) i 0) (getD (s .kv) i 0) (getD (s .thickness) (i + 1) 0) (getD (s .kv) (i + 1) 0) ≡ downOf s i j
+  pub table-is : {a : ℕ} → i ≡ 0 → a ≡ areaAt s j → fromTable a (getD (s .kv) 0 0) (getD (s .thickness) 1 0) (getD (s .kv) 1 0) 0 ≡ downOf s i j
   unfolding downOf
-  down-is e = rw (add-one i, e)
+  table-is z e = rw (z, e)
 
   pub storage-above : {a : ℕ} → i ≡ 0 → a ≡ areaAt s j → unconfinedStorage a (getD (s .storage) 0 0) ≡ storageOf s i j
   unfolding storageOf
   storage-above z e = rw (z, e)
+
+pub down-is : (s : Site) (i j : ℕ) {a : ℕ} → (i ≡ 0 → ⊥) → a ≡ areaAt s j
+    → vertical a (getD (s .thickness) i 0) (getD (s .kv) i 0) (getD (s .thickness) (i + 1) 0) (getD (s .kv) (i + 1) 0) ≡ downOf s i j
+unfolding downOf
+down-is s zero j f e = absurd (f refl)
+down-is s (suc i) j f e = rw (add-one (suc i), e)
 
 pub storage-below : (s : Site) (i j : ℕ) {a : ℕ} → (i ≡ 0 → ⊥) → a ≡ areaAt s j
     → confinedStorage a (getD (s .thickness) i 0) (getD (s .storage) i 0) ≡ storageOf s i j

@@ -3,7 +3,9 @@ use mathlib.Core.Path.{_≡_}
 use mathlib.Core.Bool.{Bool, cond}
 use mathlib.Core.List.{List}
 use Prim.Native.Nat.{ℕ, _-_, _^_, _<_, _≤_}
-use lib.ListN.{getD}
+use lib.ListN.{getD, replicate}
+use Rattle.laws.specs.Fill.{fill}
+use Rattle.limits.specs.Limits.{columnPlaces}
 use Rattle.words.specs.declared.Quotient.{Quotient}
 use Rattle.words.specs.declared.Quotient.the-variants.{Word, Over}
 use Rattle.words.specs.Fitted.{fitted}
@@ -23,7 +25,11 @@ pub record Logarithms (s : Site) (l : List ℕ) : Type 0 where
   pub at : (j : ℕ) → j < s .columns → getD l j 0 ≡ logarithmAt s j
   pub above : (j : ℕ) → j < s .columns → 0 < getD l j 0
 
--- A_j of each column j before the last, mm²
+-- A_j of each column j before the last, mm², as an array: slot 0 is the well's, which has no ring of its own
+unfoldable pub areasOf : Site → List ℕ
+areasOf s = fill (s .columns) (areaAt s) (replicate columnPlaces 0)
+
+-- what such an array holds
 pub record Areas (s : Site) (l : List ℕ) : Type 0 where
   pub at : (j : ℕ) → j < s .columns → getD l j 0 ≡ areaAt s j
   pub most : (j : ℕ) → j < s .columns → getD l j 0 ≤ 2 ^ 44

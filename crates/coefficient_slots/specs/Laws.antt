@@ -1,4 +1,5 @@
 -- What the tests of the coefficients say, of faces and cells and of slots, for the proofs of this and other crates: laws only, nothing to believe.
+--     columns-at           a test of every stored column, at one of them; columns-from: the other way
 --     coefficients-hold    Coefficients: the limits of each C and S of a grid; hold-coefficients: the other way
 --     used-slot            the slot of a cell is used; by-slot: every used slot is a cell's
 --     coefficients-ext     grids whose C and S pass the limits alike (Alike) pass the test alike
@@ -38,11 +39,11 @@ between-from w = both-hold (le-leb _ _ (w .least)) (le-leb _ _ (w .most))
 
 module _ (G : Grid) where
   -- a test of each stored column
-  columns-at : (p : ℕ → Bool) (j : ℕ) → every p (storedColumns G) ≡ true → 1 ≤ j → j < G .columns → p j ≡ true
+  pub columns-at : (p : ℕ → Bool) (j : ℕ) → every p (storedColumns G) ≡ true → 1 ≤ j → j < G .columns → p j ≡ true
   unfolding storedColumns
   columns-at p j e one k = range-at p 1 (G .columns - 1) j e one (omega arith)
 
-  columns-from : (p : ℕ → Bool) → ((j : ℕ) → 1 ≤ j → j < G .columns → p j ≡ true) → every p (storedColumns G) ≡ true
+  pub columns-from : (p : ℕ → Bool) → ((j : ℕ) → 1 ≤ j → j < G .columns → p j ≡ true) → every p (storedColumns G) ≡ true
   unfolding storedColumns
   columns-from p h = range-from p 1 (G .columns - 1) (λ j one k. h j one (omega arith))
 

@@ -1,6 +1,6 @@
--- Laws that this crate's proofs share: what the tests of a scenario say, which layers the well has a face with, what an array filled whole is.
+-- Laws that this crate's proofs share: which layers the well has a face with, what an array filled whole is.
 use mathlib.Core.Path.{_≡_, _∙_}
-use mathlib.Core.Bool.{true, and-false}
+use mathlib.Core.Bool.{and-false}
 use mathlib.Core.List.{List, map}
 use Prim.Native.Nat.{ℕ, _≤_}
 use native.Mathlib.Omega.{arith}
@@ -10,14 +10,9 @@ use lib.ListN.{getD, replicate}
 use Rattle.laws.specs.Lists.{range}
 use Rattle.laws.specs.Fill.{fill, fill-range}
 use Rattle.site.specs.declared.Site.{Site}
-use Rattle.site.specs.Laws.{counts-hold, numbers-hold, radii-hold}
-use Rattle.site.specs.Site.{isScreened, countsHold, numbersHold, radiiHold}
+use Rattle.site.specs.Site.{isScreened}
 use Rattle.record.specs.Record.{isCell, hasScreen}
-use Rattle.coefficient_cells.specs.Worked.{InLimits, slotOf}
-
--- ---- what the tests of 2, 3 and 4 say
-pub judged-site : (s : Site) → countsHold s ≡ true → numbersHold s ≡ true → radiiHold s ≡ true → InLimits s
-judged-site s counts numbers radii = record { counts = counts-hold s counts; numbers = numbers-hold s numbers; rises = radii-hold s numbers radii }
+use Rattle.coefficient_cells.specs.Worked.{slotOf}
 
 -- ---- the well's faces
 pub no-screen : (s : Site) (i n : ℕ) → (getD (s .screened) i 0 ≡ 1 → ⊥) → 0 ≡ slotOf (hasScreen s i) n

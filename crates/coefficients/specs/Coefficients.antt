@@ -6,6 +6,7 @@ use Rattle.limits.specs.Limits.{cellPlaces}
 use Rattle.network.specs.Grid.{Grid}
 use Rattle.geometry.specs.Geometry.{wellStorage}
 use Rattle.site.specs.declared.Site.{Site}
+use Rattle.site.specs.Columns.{areaAt}
 use Rattle.site.specs.Site.{isScreened}
 use Rattle.coefficient_cells.specs.Cells.{acrossOf, downOf, storageOf}
 use Rattle.record.specs.declared.Record.{Record}
@@ -24,6 +25,10 @@ scenarioGrid s = record {
   storage = storageOf s;
   wellStorage = wellStorage (s .«water_area»);
   thickness = getD (s .thickness) 0 0;
+  area = areaAt s;
+  kv₁ = getD (s .kv) 0 0;
+  thickness₂ = getD (s .thickness) 1 0;
+  kv₂ = getD (s .kv) 1 0;
   intake = s .intake;
 }
 

@@ -19,10 +19,11 @@ use Rattle.laws.specs.Lists.{range, allBelow}
 use Rattle.laws.specs.Rows.{all-from}
 use Rattle.laws.specs.Sums.{getD-map-range}
 use Rattle.limits.specs.Limits.{layerPlaces, columnPlaces, cellPlaces}
-use Rattle.network.specs.Network.{Face, Network, atRest}
-use Rattle.network.specs.Grid.{Grid, storedColumns, layersOf, upperLayers, placeCount, place, onePerPlace, acrossFace, downFace, screenFaces, facesOf, networkOf}
+use Rattle.network.specs.Network.{Rule, Face, Network, atRest}
+use Rattle.network.specs.Grid.{Grid, storedColumns, layersOf, upperLayers, placeCount, place, onePerPlace, acrossRule, downRule, acrossFace, downFace, screenFaces, facesOf, networkOf}
 use Rattle.geometry.specs.Geometry.{wellStorage}
 use Rattle.site.specs.declared.Site.{Site}
+use Rattle.site.specs.Columns.{areaAt}
 use Rattle.site.specs.Laws.{counts-hold}
 use Rattle.site.specs.Limited.{Counts}
 use Rattle.site.specs.Site.{isScreened, countsHold}
@@ -114,9 +115,9 @@ module _ (put : Bool → ℕ → ℕ) (s : Site) (spare : (n : ℕ) → put fals
   slotted-unused = rw (screen-spared, slots-spared (isCell s) (acrossOf s), slots-spared (hasBelow s) (downOf s), slots-spared (isCell s) (storageOf s))
 
 -- ---- two grids that differ at most where no face or cell is have the same network
-face-same : {one one′ two two′ c c′ : ℕ} (u : Bool) → one ≡ one′ → two ≡ two′ → c ≡ c′
-    → _≡_ {A = Face} (record { one = one; two = two; conductance = c; unconfined = u }) (record { one = one′; two = two′; conductance = c′; unconfined = u })
-face-same u p q r = rw (p, q, r)
+face-same : {one one′ two two′ c c′ : ℕ} (rule : Rule) → one ≡ one′ → two ≡ two′ → c ≡ c′
+    → _≡_ {A = Face} (record { one = one; two = two; conductance = c; rule = rule }) (record { one = one′; two = two′; conductance = c′; rule = rule })
+face-same rule p q r = rw (p, q, r)
 
 network-from : (places thickness intake : ℕ) {fs fs′ : List Face} {vs vs′ ts ts′ : List ℕ} → fs ≡ fs′ → vs ≡ vs′ → ts ≡ ts′
     → _≡_ {A = Network}
@@ -124,7 +125,7 @@ network-from : (places thickness intake : ℕ) {fs fs′ : List Face} {vs vs′ 
     (record { places = places; faces = fs′; storages = vs′; thickness = thickness; table = ts′; intake = intake })
 network-from places thickness intake p q r = rw (p, q, r)
 
-module _ (layers columns : ℕ) (screened : ℕ → Bool) (well thickness intake : ℕ) where
+module _ (layers columns : ℕ) (screened : ℕ → Bool) (well thickness : ℕ) (area : ℕ → ℕ) (kv₁ thickness₂ kv₂ intake : ℕ) where
   abbrev gridWith : (ℕ → ℕ → ℕ) → (ℕ → ℕ → ℕ) → (ℕ → ℕ → ℕ) → Grid
   gridWith across down storage = record {
     layers = layers;
@@ -135,6 +136,10 @@ module _ (layers columns : ℕ) (screened : ℕ → Bool) (well thickness intake
     storage = storage;
     wellStorage = well;
     thickness = thickness;
+    area = area;
+    kv₁ = kv₁;
+    thickness₂ = thickness₂;
+    kv₂ = kv₂;
     intake = intake;
   }
 
@@ -152,11 +157,16 @@ module _ (layers columns : ℕ) (screened : ℕ → Bool) (well thickness intake
 
       across-face : (i j : ℕ) → a i j ≡ a′ i j → acrossFace (gridWith a d v) i j ≡ acrossFace (gridWith a′ d′ v′) i j
       unfolding acrossFace
-      across-face i j e = face-same (eqb i 0) (place-same i j) (place-same i (suc j)) e
+      across-face i j e = face-same (acrossRule i) (place-same i j) (place-same i (suc j)) e
+
+      down-rule : (i j : ℕ) → downRule (gridWith a d v) i j ≡ downRule (gridWith a′ d′ v′) i j
+      unfolding downRule
+      down-rule zero j = refl
+      down-rule (suc i) j = refl
 
       down-face : (i j : ℕ) → d i j ≡ d′ i j → downFace (gridWith a d v) i j ≡ downFace (gridWith a′ d′ v′) i j
       unfolding downFace
-      down-face i j e = face-same false (place-same i j) (place-same (suc i) j) e
+      down-face i j e = rw (down-rule i j) (face-same (downRule (gridWith a′ d′ v′) i j) (place-same i j) (place-same (suc i) j) e)
 
       screen-faces : (i : ℕ) → i < layers → screenFaces (gridWith a d v) i ≡ screenFaces (gridWith a′ d′ v′) i
       unfolding screenFaces
@@ -190,7 +200,8 @@ module _ (s : Site) (counts : countsHold s ≡ true) where
       let put : Bool → ℕ → ℕ = λ used n. cond used n 0 in
       let G = gridOf (slotted put s) in
       rw (start-slotted s)
-      (network-same (s .layers) (s .columns) (isScreened (s .screened)) (wellStorage (s .«water_area»)) (getD (s .thickness) 0 0) (s .intake)
+      (network-same (s .layers) (s .columns) (isScreened (s .screened)) (wellStorage (s .«water_area»)) (getD (s .thickness) 0 0)
+      (areaAt s) (getD (s .kv) 0 0) (getD (s .thickness) 1 0) (getD (s .kv) 1 0) (s .intake)
       (G .across) (G .down) (G .storage) (acrossOf s) (downOf s) (storageOf s)
       (screen-at put s known) (across-at put s known) (down-at put s known) (storage-at put s known))
 

@@ -1,7 +1,8 @@
 // The coefficients of a scenario, judged by rule 6, and the record at the start.
 use coefficient_cells::across;
-use coefficient_cells::columns_of;
+use coefficient_cells::areas_of;
 use coefficient_cells::down;
+use coefficient_cells::logarithms_of;
 use coefficient_cells::storage;
 use coefficient_slots::coefficients_hold;
 use geometry::well_storage;
@@ -93,9 +94,10 @@ pub fn coefficients_of(site: Site) -> Coefficients
     requires { ⌜ (countsHold site ≡ true) × (numbersHold site ≡ true) × (radiiHold site ≡ true) ⌝ }
     ensures { λ r. ⌜ r ≡ coefficientsOf site ⌝ }
 {
-    let columns = columns_of(site);
-    let screen = screen_of(site, &columns.logarithms);
-    let cells = cells_of(site, &columns.logarithms, &columns.areas);
+    let logarithms = logarithms_of(site);
+    let areas = areas_of(site);
+    let screen = screen_of(site, &logarithms);
+    let cells = cells_of(site, &logarithms, &areas);
     let horizontal = cells.horizontal;
     let vertical = cells.vertical;
     let storages = cells.storages;

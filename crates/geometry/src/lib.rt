@@ -6,7 +6,7 @@ ghost use mathlib.Core.Path.{_≡_};
 ghost use Prim.Native.Nat.{ℕ, _+_, _*_, _<_, _≤_, _^_};
 ghost use Rattle.limits.specs.Limits.{midsectionFactor};
 ghost use Rattle.words.specs.Fitted.{fitted};
-ghost use Rattle.geometry.specs.Geometry.{terms, seriesLogarithm, logarithmOfThree, logarithm, area, horizontal, vertical, unconfinedStorage, confinedStorage, wellStorage};
+ghost use Rattle.geometry.specs.Geometry.{terms, seriesLogarithm, logarithmOfThree, logarithm, area, horizontal, vertical, fromTable, unconfinedStorage, confinedStorage, wellStorage};
 
 // Λ(3q, q) of every q above 0.
 const LOGARITHM_OF_THREE: u64 = 1179625948;
@@ -69,7 +69,7 @@ pub fn horizontal(b: u64, kh: u64, log: u64) -> Quotient
     quotient(b * kh, 6746518852, log)
 }
 
-// Vertical C over an area between a layer and the one below it; 0 if either lets no water through.
+// Vertical C over an area between a layer below layer 1 and the next one; 0 if either lets no water through.
 pub fn vertical(a: u64, b1: u64, kv1: u64, b2: u64, kv2: u64) -> Quotient
     requires { ⌜ (a ≤ 2 ^ 44) × (0 < b1) × (b1 ≤ 1000000) × (kv1 ≤ 100000000) × (b2 ≤ 1000000) × (kv2 ≤ 100000000) ⌝ }
     ensures { λ r. ⌜ r ≡ fitted (vertical a b1 kv1 b2 kv2) ⌝ }
@@ -81,6 +81,20 @@ pub fn vertical(a: u64, b1: u64, kv1: u64, b2: u64, kv2: u64) -> Quotient
         return Quotient::Word(0);
     }
     quotient(a * 2, kv1 * kv2, b1 * kv2 + b2 * kv1)
+}
+
+// Vertical C over an area between layers 1 and 2, where the water table is s µm above the bottom of layer 1; 0 if either lets no water through.
+pub fn from_table(a: u64, kv1: u64, b2: u64, kv2: u64, s: u64) -> Quotient
+    requires { ⌜ (a ≤ 2 ^ 44) × (kv1 ≤ 100000000) × (0 < b2) × (b2 ≤ 1000000) × (kv2 ≤ 100000000) × (s ≤ 1000000000) ⌝ }
+    ensures { λ r. ⌜ r ≡ fitted (fromTable a kv1 b2 kv2 s) ⌝ }
+{
+    if kv1 == 0 {
+        return Quotient::Word(0);
+    }
+    if kv2 == 0 {
+        return Quotient::Word(0);
+    }
+    quotient(a * 1000, kv1 * kv2, s * kv2 + 500 * b2 * kv1)
 }
 
 // S of a cell of layer 1.

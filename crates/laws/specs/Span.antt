@@ -1,6 +1,8 @@
 -- A list written in spans, one store a turn, and what stands in it.
 --     span s n f l       l with f k at each of the n places from s on
 --     span-more          one store more, as a loop's turn makes it
+--     span-ext           functions that agree on a span make the same of it
+--     span-first         the first places are filled
 --     spans w n f l      l with f k at the first w of each 50 places, n times 50: the columns in use of n layers
 --     spans-more         one span more
 --     spans-fill         where the places between hold already what f gives, the spans fill the list
@@ -8,6 +10,7 @@
 use mathlib.Core.Path.{_≡_, refl, sym, ap, _∙_}
 use mathlib.Core.List.{List}
 use Prim.Native.Nat.{ℕ, zero, suc, _+_, _*_, _%_, _<_, _≤_}
+use native.Mathlib.Nat.{zero-add}
 use native.Mathlib.Numerals.{add-one}
 use native.Mathlib.Decide.{decLt}
 use native.Mathlib.Omega.{arith}
@@ -33,6 +36,11 @@ module _ {A : Type 0} (f : ℕ → A) (l : List A) where
   unfolding span
   span-more s n e q = rw (add-one n, e, q)
 
+  pub span-first : (n : ℕ) → span 0 n f l ≡ fill n f l
+  unfolding span fill
+  span-first zero = refl
+  span-first (suc n) = rw (zero-add n) (ap (λ m. set m n (f n)) (span-first n))
+
   length-span : (s n : ℕ) → length (span s n f l) ≡ length l
   unfolding span
   length-span s zero = refl
@@ -54,6 +62,15 @@ module _ {A : Type 0} (f : ℕ → A) (l : List A) where
   pub spans-more : {l′ l″ : List A} (w n : ℕ) → l′ ≡ spans w n f l → l″ ≡ span (50 * n) w f l′ → l″ ≡ spans w (n + 1) f l
   unfolding spans
   spans-more w n e q = rw (add-one n) (q ∙ ap (span (50 * n) w f) e)
+
+-- functions that agree on a span make the same of it
+pub span-ext : {A : Type 0} (f g : ℕ → A) (l : List A) (s n : ℕ) → ((k : ℕ) → k < n → f (s + k) ≡ g (s + k)) → span s n f l ≡ span s n g l
+unfolding span
+span-ext f g l s zero h = refl
+span-ext f g l s (suc n) h =
+    let e : span s n f l ≡ span s n g l = span-ext f g l s n (λ k lt. h k (omega arith)) in
+    let q : f (s + n) ≡ g (s + n) = h n (omega arith) in
+    rw (e, q)
 
 -- lists as long as each other that are alike from n on fill alike
 pub fill-alike : {A : Type 0} (f : ℕ → A) (d : A) (l m : List A) (n : ℕ) → length l ≡ length m → ((k : ℕ) → n ≤ k → getD l k d ≡ getD m k d) → fill n f l ≡ fill n f m

@@ -20,7 +20,7 @@ use Rattle.laws.specs.Rows.{three-hold, four-hold}
 use Rattle.laws.specs.Sums.{sumℤ-ext, range-below}
 use Rattle.network.specs.Network.{Network, State, isPlace, lossAt, lossIn, lengthOut, unstable}
 use Rattle.network.specs.Network as network
-use Rattle.network.specs.Grid.{Grid, layersOf, storedColumns, placeCount, place, acrossFace, downFace, networkOf}
+use Rattle.network.specs.Grid.{Grid, layersOf, storedColumns, placeCount, place, downRule, acrossFace, downFace, networkOf}
 use Rattle.network.specs.laws.Ends.{Inside}
 use Rattle.network.specs.laws.Places.{place-below}
 use Rattle.site.specs.declared.Site.{Site}
@@ -127,9 +127,14 @@ module _ {scenario : Site} {s : State} {r : Record} (h : Carries scenario s r) w
   unfolding acrossFace
   across-face i j e = rw (same-place i j, same-place i (suc j), e)
 
+  same-rule : (i j : ℕ) → downRule (gridOf r) i j ≡ downRule G i j
+  unfolding downRule gridOf scenarioGrid
+  same-rule zero j = rw (h .site)
+  same-rule (suc i) j = refl
+
   down-face : (i j : ℕ) → gridOf r .down i j ≡ G .down i j → downFace (gridOf r) i j ≡ downFace G i j
   unfolding downFace
-  down-face i j e = rw (same-place i j, same-place (suc i) j, e)
+  down-face i j e = rw (same-place i j, same-place (suc i) j, e, same-rule i j)
 
   screen-face : (i : ℕ) → i < scenario .layers → G .screened i ≡ true → acrossFace (gridOf r) i 0 ≡ acrossFace G i 0
   unfolding scenarioGrid

@@ -1,12 +1,12 @@
 -- The grid of 01 as a network: layers of cylindrical columns around the well.
 -- Layers count from 0 at the top (01's layer is one more). Columns count as in 01: column 0 is the well, columns 1 to m−1 store water,
 -- and column m is the last, at constant head.
-use mathlib.Core.Bool.{Bool, false, cond}
+use mathlib.Core.Bool.{Bool, cond}
 use mathlib.Core.List.{List, [], _∷_, _++_, map, flatMap}
 use Prim.Native.Nat.{ℕ, zero, suc, _+_, _*_, _-_}
-use lib.Dec.{eqb, ltb}
+use lib.Dec.{ltb}
 use Rattle.laws.specs.Lists.{range}
-use Rattle.network.specs.Network.{Face, Network}
+use Rattle.network.specs.Network.{Rule, Face, Network}
 
 pub record Grid : Type 0 where
   pub layers : ℕ  -- how many
@@ -17,6 +17,10 @@ pub record Grid : Type 0 where
   pub storage : ℕ → ℕ → ℕ  -- S of the cell of layer i, column j
   pub wellStorage : ℕ  -- S of the well
   pub thickness : ℕ  -- b_1, mm
+  pub area : ℕ → ℕ  -- A_j of column j, mm²
+  pub kv₁ : ℕ  -- Kv_1, nm/s
+  pub thickness₂ : ℕ  -- b_2, mm
+  pub kv₂ : ℕ  -- Kv_2, nm/s
   pub intake : ℕ  -- p, mm
 
 -- the stored columns 1 to m−1
@@ -43,13 +47,22 @@ place G i (suc r) = cond (ltb (suc r) (G .columns)) (1 + i * (G .columns - 1) + 
 unfoldable pub onePerPlace : {A : Type 0} → Grid → A → (ℕ → ℕ → A) → List A
 onePerPlace G well f = well ∷ flatMap (λ i. map (f i) (storedColumns G)) (layersOf G)
 
+-- what C in use goes by within layer i, and between layers i and i+1 of column j
+unfoldable pub acrossRule : ℕ → Rule
+acrossRule zero = Rule.unconfined
+acrossRule (suc i) = Rule.fixed
+
+unfoldable pub downRule : Grid → ℕ → ℕ → Rule
+downRule G zero j = Rule.table (G .area j) (G .kv₁) (G .thickness₂) (G .kv₂)
+downRule G (suc i) j = Rule.fixed
+
 -- the face of layer i between columns j and j+1
 unfoldable pub acrossFace : Grid → ℕ → ℕ → Face
-acrossFace G i j = record { one = place G i j; two = place G i (suc j); conductance = G .across i j; unconfined = eqb i 0 }
+acrossFace G i j = record { one = place G i j; two = place G i (suc j); conductance = G .across i j; rule = acrossRule i }
 
 -- the face of column j between layers i and i+1
 unfoldable pub downFace : Grid → ℕ → ℕ → Face
-downFace G i j = record { one = place G i j; two = place G (suc i) j; conductance = G .down i j; unconfined = false }
+downFace G i j = record { one = place G i j; two = place G (suc i) j; conductance = G .down i j; rule = downRule G i j }
 
 -- the well's face with a layer, if that is screened
 unfoldable pub screenFaces : Grid → ℕ → List Face

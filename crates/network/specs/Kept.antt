@@ -1,6 +1,6 @@
 -- What refusal 14 asks of the part of a record that a step moves, and what the laws of a step ask of a network.
 use mathlib.Core.Path.{_≡_}
-use mathlib.Core.Bool.{true, false}
+use mathlib.Core.Bool.{false}
 use mathlib.Core.Logic.{_⊎_}
 use mathlib.Core.List.{List·Memᴰ}
 use Prim.Native.Nat.{ℕ, _*_, _≤_, _<_}
@@ -8,19 +8,23 @@ use lib.IntN.{pos, _+ℤ_}
 use lib.Signed.{_≤ℤ_}
 use lib.ListN.{length}
 use Rattle.limits.specs.Limits.{totalLimit, drawdownLimit}
-use Rattle.network.specs.Network.{Face, Network, State, isPlace, lossAt, storageAt, drawdown, lossIn, wellTooDeep, tableTooDeep}
+use Rattle.geometry.specs.Geometry.{fromTable}
+use Rattle.network.specs.Network.{Rule, Face, Network, State, isPlace, lossAt, storageAt, drawdown, lossIn, wellTooDeep, tableTooDeep}
 
 -- p is in layer 1 or in the last column
 abbrev pub OnTable : Network → ℕ → Type 0
 OnTable N p = List·Memᴰ p (N .table) ⊎ (N .places ≤ p)
 
--- A network on which steps can be taken: the well is a place, every place stores water, the intake is no deeper than a D may be, and only faces
--- within layer 1, or from it to the last column, are unconfined.
+-- A network on which steps can be taken: the well is a place, every place stores water, the intake is no deeper than a D may be, only faces within
+-- layer 1, or from it to the last column, are unconfined, and a face below the water table begins in layer 1 and has as its C the value at s = 0, where
+-- b_2 is above 0.
 pub record Proper (N : Network) : Type 0 where
   pub well : 0 < N .places
   pub storages : (p : ℕ) → p < N .places → 0 < storageAt N p
   pub intake : 1000 * N .intake ≤ drawdownLimit
-  pub unconfined : (f : Face) → List·Memᴰ f (N .faces) → f .unconfined ≡ true → OnTable N (f .one) × OnTable N (f .two)
+  pub unconfined : (f : Face) → List·Memᴰ f (N .faces) → f .rule ≡ Rule.unconfined → OnTable N (f .one) × OnTable N (f .two)
+  pub table : (f : Face) → List·Memᴰ f (N .faces) → (a kv₁ b₂ kv₂ : ℕ) → f .rule ≡ Rule.table a kv₁ b₂ kv₂
+      → OnTable N (f .one) × (0 < b₂) × (f .conductance ≡ fromTable a kv₁ b₂ kv₂ 0)
 
 -- A state in its limits: one loss for each place; losses and inflow not negative, adding up to the pumped total; totals and every D within bounds.
 pub record Kept (N : Network) (s : State) : Type 0 where

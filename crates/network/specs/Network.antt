@@ -2,22 +2,29 @@
 -- Place and face are document 01's own terms ('Geometry to coefficients'): a place is the well or a cell of columns 1 to m−1.
 -- Place 0 is the well. Whatever is not below the number of places is the last column, at constant head: its loss and its drawdown are 0.
 -- Units: losses V, totals and water nl; drawdowns D µm; C 10^-12 m²/s; S nl per m; times µs; rates ml/s; lengths mm.
-use mathlib.Core.Bool.{Bool, true, false, cond, not, _||_}
+use mathlib.Core.Bool.{Bool, true, false, not, _||_}
 use mathlib.Core.List.{List, [], _∷_, map}
 use Prim.Native.Nat.{ℕ, _+_, _*_, _^_}
-use lib.IntN.{ℤ, pos, negℤ, _+ℤ_, _-ℤ_, _*ℤ_}
+use lib.IntN.{ℤ, pos, negsuc, negℤ, _+ℤ_, _-ℤ_, _*ℤ_}
 use lib.Signed.{quotZ, shrZ, ltZ}
 use lib.Dec.{eqb, leb, ltb}
 use lib.ListN.{getD, replicate}
 use Rattle.laws.specs.Lists.{allBelow, first, ifℕ, ifℤ, sumℕ, sumℤ, range, some}
 use Rattle.limits.specs.Limits.{rateLimit, lengthLimit, totalLimit}
+use Rattle.geometry.specs.Geometry.{fromTable}
+
+-- What C in use of a face goes by.
+pub data Rule : Type 0 where
+  fixed : Rule  -- C itself
+  unconfined : Rule  -- horizontally in layer 1: the mean saturated thickness of both ends
+  table : ℕ → ℕ → ℕ → ℕ → Rule  -- from layer 1, which is end one, to layer 2: the path from the water table; A_j, Kv_1, b_2 and Kv_2
 
 -- A face joins two places, or a place and the last column: document 01's term for a pair that a C rule joins, be C zero or not.
 pub record Face : Type 0 where
   pub one : ℕ
   pub two : ℕ
-  pub conductance : ℕ  -- C, unreduced
-  pub unconfined : Bool  -- horizontal, in layer 1
+  pub conductance : ℕ  -- C, unreduced; between layers 1 and 2 the value at s = 0 (N6)
+  pub rule : Rule
 
 pub record Network : Type 0 where
   pub places : ℕ  -- how many; the well is place 0
@@ -57,15 +64,25 @@ drawdown N vs p = shrZ (lossAt vs p *ℤ pos (10 ^ 6)) (storageAt N p)
 -- ---- the water of one face
 
 -- s = 1000×b_1 − D, µm: the saturated thickness of layer 1 at drawdown D
-unfoldable pub saturated : Network → ℤ → ℤ
-saturated N D = pos (1000 * N .thickness) -ℤ D
+unfoldable pub saturated : ℕ → ℤ → ℤ
+saturated b₁ D = pos (1000 * b₁) -ℤ D
 
--- C in use between drawdowns D_a and D_b: horizontally in layer 1 C×(s_a+s_b)/(2000×b_1), rounded down; elsewhere C
+-- C between layers 1 and 2 by the saturated thickness s of layer 1. Where that is below 0, as in no record that 14 lets pass, it is 0, and nothing rests
+-- on it
+unfoldable pub atTable : ℕ → ℕ → ℕ → ℕ → ℤ → ℤ
+atTable a kv₁ b₂ kv₂ (pos s) = pos (fromTable a kv₁ b₂ kv₂ s)
+atTable a kv₁ b₂ kv₂ (negsuc n) = pos 0
+
+-- C in use by a rule, with D_a at end one and D_b at end two: C; horizontally in layer 1 C×(s_a+s_b)/(2000×b_1), rounded down; between layers 1 and 2
+-- (N6) the value at s of end one, which is layer 1's, whichever way the water runs
+unfoldable pub inUseBy : ℕ → ℕ → Rule → ℤ → ℤ → ℤ
+inUseBy b₁ C fixed Da Db = pos C
+inUseBy b₁ C unconfined Da Db = shrZ (pos C *ℤ (saturated b₁ Da +ℤ saturated b₁ Db)) (2000 * b₁)
+inUseBy b₁ C (table a kv₁ b₂ kv₂) Da Db = atTable a kv₁ b₂ kv₂ (saturated b₁ Da)
+
+-- C in use of a face
 unfoldable pub inUse : Network → Face → ℤ → ℤ → ℤ
-inUse N f Da Db =
-    cond (f .unconfined)
-    (shrZ (pos (f .conductance) *ℤ (saturated N Da +ℤ saturated N Db)) (2000 * N .thickness))
-    (pos (f .conductance))
+inUse N f Da Db = inUseBy (N .thickness) (f .conductance) (f .rule) Da Db
 
 -- water from a to b in Δt: size C×|D_b−D_a|×Δt/10^12 rounded down, sign of D_b−D_a, that is C×(D_b−D_a)×Δt/10^12 rounded toward zero
 unfoldable pub water : ℤ → ℤ → ℤ → ℕ → ℤ
@@ -134,7 +151,7 @@ lengthOut dt = eqb dt 0 || ltb lengthLimit dt
 unfoldable pub rateOrLengthOut : ℕ → ℕ → Bool
 rateOrLengthOut rate dt = ltb rateLimit rate || lengthOut dt
 
--- the sum of C of the faces of p, unreduced
+-- the sum of C of the faces of p, unreduced, and between layers 1 and 2 at s = 0 (N6)
 unfoldable pub conductanceSum : Network → ℕ → ℕ
 conductanceSum N p = sumℕ (N .faces) λ f. ifℕ (eqb (f .one) p) (f .conductance) + ifℕ (eqb (f .two) p) (f .conductance)
 

@@ -1,52 +1,55 @@
 -- What the functions of this crate need of the ends of a face and of a valid record.
 --     layer-in to next-cell       which ends are joined, from the numbers of a site
---     slot-in to both-on          slots and C in use, by the kinds of the ends
+--     slot-in to at-top           slots and C in use, by the kinds of the ends
 --     End                         an end: its V, S and D by slot and by place
---     one-is to unconfined-is     the face that leads from one end to another; then its water in a step that 7 and 8 allow
+--     across-rule to lowers       the face that leads from one end to another; then its water in a step that 7 and 8 allow
 use mathlib.Core.Path.{_≡_, refl, sym, ap, ap₂, _∙_}
-use mathlib.Core.Bool.{Bool, true, false, _&&_, _||_, and-false, true≢false}
+use mathlib.Core.Bool.{Bool, true, false, cond, _&&_, _||_, and-false, true≢false}
 use mathlib.Core.Logic.{⊎-elim}
 use mathlib.Core.List.{List}
-use Prim.Native.Nat.{ℕ, zero, suc, _+_, _*_, _-_, _^_, _≤_, _<_, zero-le}
+use Prim.Native.Nat.{ℕ, zero, suc, _+_, _*_, _-_, _≤_, _<_, zero-le}
 use native.Mathlib.Nat.{le-trans, zero-mul, zero-div}
-use native.Mathlib.Decide.{ℕ-discrete}
 use native.Mathlib.Numerals.{add-one}
 use native.Mathlib.Omega.{arith}
 use lib.Dec.{eqb, leb, ltb}
 use lib.IntN.{ℤ, pos, natAbs}
 use lib.ListN.{getD, List·getD-eq-default}
 use lib.Signed.{_≤ℤ_, ltZ}
-use borrow.Author.Tests.{eqb-true, leb-true, ltb-true, le-leb, eq-eqb, ne-eqb}
+use borrow.Author.Tests.{leb-true, ltb-true, le-leb, eq-eqb, ne-eqb}
 use mir.Syntax.{w64}
 use mir.Val.{SFits, toZ, ofZ}
 use mir.Facts.{toZ-ofZ}
 use Rattle.laws.specs.All.{and-left, and-right}
 use Rattle.laws.specs.Integer.{pos-≤ℤ, ≤ℤ-pos, not-past}
 use Rattle.laws.specs.Number.{below-or-not}
-use Rattle.laws.specs.Rows.{same-test, both-hold, three-hold, four-hold}
+use Rattle.laws.specs.Rows.{both-hold, three-hold, four-hold}
 use Rattle.laws.specs.Signed.{small-fits}
 use Rattle.laws.specs.Sums.{none-at}
 use Rattle.limits.specs.Limits.{lengthLimit, totalLimit, drawdownLimit}
-use Rattle.network.specs.Network.{Face, Network, lossAt, drawdown, saturated, inUse, water, crossing, flow, stable, tableTooDeep}
-use Rattle.network.specs.Grid.{Grid, place, onePerPlace, acrossFace, downFace, networkOf}
+use Rattle.network.specs.Network.{Rule, Face, Network, lossAt, drawdown, inUseBy, inUse, water, crossing, flow, stable, tableTooDeep}
+use Rattle.network.specs.Grid.{Grid, place, onePerPlace, acrossRule, downRule, acrossFace, downFace, networkOf}
 use Rattle.network.specs.Kept.{OnTable}
 use Rattle.network.specs.laws.Bounds.{face-fits}
 use Rattle.network.specs.laws.Places.{place-below, place-well}
+use Rattle.network.specs.laws.Proper.{on-table}
 use Rattle.site.specs.declared.Site.{Site}
+use Rattle.site.specs.Columns.{areaAt}
 use Rattle.site.specs.Laws.{numbers-hold}
 use Rattle.site.specs.Limited.{Counts, LayerNumbers}
 use Rattle.site.specs.Site.{isScreened}
 use Rattle.record.specs.declared.Record.{Record}
 use Rattle.record.specs.Record.{slot, acrossIn, gridOf, stateOf}
-use Rattle.validity.specs.Laws.{Valid, valid-proper}
+use Rattle.coefficient_cells.specs.Worked.{InLimits}
+use Rattle.validity.specs.Laws.{Valid, valid-proper, valid-limits, table-fits}
 use Rattle.step_drawdowns.specs.Drawdowns.{depthOf, depthAt}
-use Rattle.step_flows.specs.Flows.{reducedC}
+use Rattle.step_flows.specs.Flows.{reducedC, loweredC}
+use Rattle.slot_places.specs.Screen.{fixed-below}
 use Rattle.slot_places.specs.Slots.{slot-at, counted, dry, loss-past, loss-cell, depth-column, depth-well}
 use Rattle.readings.specs.declared.Place.{Place}
 use Rattle.readings.specs.declared.Place.the-variants.{Well, Cell}
 use Rattle.readings.specs.Readings.{isLayer, isStored, numberOf, leads, faceFrom}
 use Rattle.readings.specs.Laws.{well-back}
-use Rattle.read_flow.specs.Ends.{inSlots, lossEnd, storageEnd, conductanceFrom, onTable, inUseFrom}
+use Rattle.read_flow.specs.Ends.{inSlots, lossEnd, storageEnd, conductanceFrom, ruleFrom, inUseFrom, InLayer, Lowers}
 use Rattle.read_flow.specs.Laws.{Led, screen, across, down, face-listed}
 
 -- ---- which ends are joined, from the numbers of a site
@@ -101,33 +104,34 @@ slot-in i j e =
     let tests = four-hold (leb 1 i) (leb i 20) (leb 1 j) (leb j 50) e in
     (leb-true _ _ (tests .0), leb-true _ _ (tests .1), leb-true _ _ (tests .2), leb-true _ _ (tests .3))
 
-module _ (screen horizontal vertical : List ℕ) (b₁ : ℕ) (Da Db : ℤ) where
-  pub none-to-well : (a : Place) → pos 0 ≡ inUseFrom screen horizontal vertical b₁ a Well Da Db
-  unfolding inUseFrom onTable conductanceFrom
+module _ (s : Site) (screen horizontal vertical : List ℕ) (Da Db : ℤ) where
+  pub none-to-well : (a : Place) → pos 0 ≡ inUseFrom s screen horizontal vertical a Well Da Db
+  unfolding inUseFrom inUseBy ruleFrom conductanceFrom
   none-to-well Well = refl
   none-to-well (Cell i j) = refl
 
   -- between cells, of which the first is that of slot n
   module _ {a b : Place} {i j k l n : ℕ} (from : a ≡ Cell i j) (to : b ≡ Cell k l) (at : n ≡ slot (i - 1) j) where
-    pub down-in : (k ≡ i → ⊥) → pos (getD vertical n 0) ≡ inUseFrom screen horizontal vertical b₁ a b Da Db
-    unfolding inUseFrom onTable conductanceFrom
-    down-in h = rw (from, to, at, ne-eqb k i h, apart (ℕ-discrete i 1))
-      where
-        apart : Dec (i ≡ 1) → (eqb i 1 && eqb k 1) ≡ false
-        apart (yes e) = rw (ne-eqb k 1 (λ q. h (q ∙ sym e)), and-false)
-        apart (no f) = rw (ne-eqb i 1 f)
+    pub down-in : (k ≡ i → ⊥) → 1 < i → pos (getD vertical n 0) ≡ inUseFrom s screen horizontal vertical a b Da Db
+    unfolding inUseFrom inUseBy ruleFrom conductanceFrom
+    down-in h u = rw (from, to, at, ne-eqb k i h, ne-eqb i 1 (λ e. absurd (omega arith)))
 
-    pub across-in : k ≡ i → (i ≡ 1 → ⊥) → pos (getD horizontal n 0) ≡ inUseFrom screen horizontal vertical b₁ a b Da Db
-    unfolding inUseFrom onTable conductanceFrom
+    pub table-in : (k ≡ i → ⊥) → i ≡ 1
+        → loweredC (getD (s .thickness) 0 0) (getD (s .kv) 0 0) (getD (s .thickness) 1 0) (getD (s .kv) 1 0) (areaAt s j) Da ≡ inUseFrom s screen horizontal vertical a b Da Db
+    unfolding inUseFrom inUseBy ruleFrom loweredC
+    table-in h e = rw (from, to, ne-eqb k i h, eq-eqb i 1 e)
+
+    pub across-in : k ≡ i → (i ≡ 1 → ⊥) → pos (getD horizontal n 0) ≡ inUseFrom s screen horizontal vertical a b Da Db
+    unfolding inUseFrom inUseBy ruleFrom conductanceFrom
     across-in e f = rw (from, to, at, ne-eqb i 1 f, eq-eqb k i e)
 
-    pub table-in : k ≡ i → i ≡ 1 → reducedC b₁ (getD horizontal n 0) Da Db ≡ inUseFrom screen horizontal vertical b₁ a b Da Db
-    unfolding inUseFrom onTable conductanceFrom
-    table-in e f = rw (from, to, at, eq-eqb k i e, eq-eqb i 1 f, eq-eqb k 1 (e ∙ f))
+    pub reduced-in : k ≡ i → i ≡ 1 → reducedC (getD (s .thickness) 0 0) (getD horizontal n 0) Da Db ≡ inUseFrom s screen horizontal vertical a b Da Db
+    unfolding inUseFrom inUseBy ruleFrom reducedC conductanceFrom
+    reduced-in e f = rw (from, to, at, eq-eqb i 1 f, eq-eqb k i e)
 
-pub both-on : {a b : Place} {i j k l : ℕ} → a ≡ Cell i j → b ≡ Cell k l → k ≡ i → i ≡ 1 → onTable a b ≡ true
-unfolding onTable
-both-on {i = i} {k = k} from to e f = rw (from, to) (both-hold (eq-eqb i 1 f) (eq-eqb k 1 (e ∙ f)))
+-- a cell of layer 1
+pub at-top : {a : Place} {i j : ℕ} → a ≡ Cell i j → i ≡ 1 → a ≡ Cell 1 j
+at-top from e = rw e at from
 
 -- ---- the ends of a face
 
@@ -203,6 +207,18 @@ module _ (r : Record) (v : Valid r) where
 
   -- ---- the face that leads from a to b
 
+  across-rule : (i : ℕ) → 1 ≤ i → acrossRule (i - 1) ≡ cond (eqb i 1) Rule.unconfined Rule.fixed
+  unfolding acrossRule
+  across-rule zero h = absurd (omega arith)
+  across-rule (suc zero) h = refl
+  across-rule (suc (suc i)) h = let e : suc (suc i) - 1 ≡ suc i = omega arith in rw (e, ne-eqb (suc (suc i)) 1 (λ q. absurd (omega arith)))
+
+  down-rule : (i j : ℕ) → 1 ≤ i → downRule G (i - 1) j ≡ cond (eqb i 1) (Rule.table (areaAt (r .site) j) (getD (r .site .kv) 0 0) (getD (r .site .thickness) 1 0) (getD (r .site .kv) 1 0)) Rule.fixed
+  unfolding downRule gridOf
+  down-rule zero j h = absurd (omega arith)
+  down-rule (suc zero) j h = refl
+  down-rule (suc (suc i)) j h = let e : suc (suc i) - 1 ≡ suc i = omega arith in rw (e, ne-eqb (suc (suc i)) 1 (λ q. absurd (omega arith)))
+
   one-is : {a b : Place} → Led G a b → faceFrom G a b .one ≡ numberOf G a
   unfolding faceFrom acrossFace downFace numberOf
   one-is (screen {k} k₁ k₂ s e) = place-well G (k - 1)
@@ -225,13 +241,24 @@ module _ (r : Record) (v : Valid r) where
       stored (suc j) h = refl
   conductance-is (down {i} {j} {k} i₁ i₂ j₁ j₂ e f) = rw (ne-eqb k i (λ q. absurd (omega arith)))
 
-  unconfined-is : {a b : Place} → Led G a b → faceFrom G a b .unconfined ≡ onTable a b
-  unfolding faceFrom acrossFace downFace onTable
-  unconfined-is (screen {k} k₁ k₂ s e) = ne-eqb (k - 1) 0 (λ q. true≢false (sym s ∙ ap (G .screened) q ∙ dry-top))
-  unconfined-is (across {i} {j} {k} i₁ i₂ j₁ j₂ e f) = rw (eq-eqb k i e) (same-test _ _
-      (λ q. both-hold (eq-eqb i 1 (omega (arith, eqb-true (i - 1) 0 q))) (eq-eqb k 1 (omega (arith, eqb-true (i - 1) 0 q))))
-      (λ q. eq-eqb (i - 1) 0 (omega (arith, eqb-true i 1 (and-left (eqb i 1) (eqb k 1) q)))))
-  unconfined-is (down {i} {j} {k} i₁ i₂ j₁ j₂ e f) = rw (ne-eqb k i (λ q. absurd (omega arith)), ne-eqb k 1 (λ q. absurd (omega arith)), and-false)
+  rule-is : {a b : Place} → Led G a b → faceFrom G a b .rule ≡ ruleFrom (r .site) a b
+  unfolding faceFrom acrossFace downFace ruleFrom
+  rule-is (screen {k} k₁ k₂ s e) = fixed-below (k - 1) (λ q. true≢false (sym s ∙ ap (G .screened) q ∙ dry-top))
+  rule-is (across {i} {j} {k} i₁ i₂ j₁ j₂ e f) = rw (eq-eqb k i e) (across-rule i i₁)
+  rule-is (down {i} {j} {k} i₁ i₂ j₁ j₂ e f) = rw (ne-eqb k i (λ q. absurd (omega arith))) (down-rule i j i₁)
+
+  -- an end in layer 1 is at a drawdown within it
+  top-end : {e : Place} → End G e → (j : ℕ) → e ≡ Cell 1 j → OnTable N (numberOf G e)
+  unfolding numberOf
+  top-end well j q = let z : _≡_ {A = ℕ} 0 1 = cc in absurd (omega arith)
+  top-end (cell i k i₁ i₂ k₁ k₂) j q = let one : i ≡ 1 = cc in rw one (on-table G k k₁)
+
+  -- and C at s = 0 of the column that it is in fits a word, where a face leads from it
+  lowers : {a b : Place} → Led G a b → Lowers (r .site) a
+  unfolding gridOf
+  lowers (screen k₁ k₂ s e) j q = let z : _≡_ {A = ℕ} 0 1 = cc in absurd (omega arith)
+  lowers (across {j = m} i₁ i₂ j₁ j₂ e f) j q = let here : m ≡ j = cc in rw (← here) (j₂, table-fits r v m j₁ j₂)
+  lowers (down {j = m} i₁ i₂ j₁ j₂ e f) j q = let here : m ≡ j = cc in rw (← here) (j₂, table-fits r v m j₁ j₂)
 
   pub joined-ends : {a b : Place} → Led G a b → End G a × End G b
   unfolding gridOf
@@ -256,21 +283,17 @@ module _ (r : Record) (v : Valid r) where
 
     module _ (here next : ℕ) (eh : pos here ≡ drawdown N vs (numberOf G a)) (en : pos next ≡ drawdown N vs (numberOf G b)) where
       -- what `in_use` asks
-      pub in-use-asks : ((inSlots a ≡ true) × (inSlots b ≡ true) × (0 < getD (r .site .thickness) 0 0) × (2000 * getD (r .site .thickness) 0 0 < 2 ^ 64))
-          × (onTable a b ≡ true → (here ≤ 1000 * getD (r .site .thickness) 0 0) × (next ≤ 1000 * getD (r .site .thickness) 0 0))
+      end-within : {e : Place} {n : ℕ} → End G e → pos n ≡ drawdown N vs (numberOf G e) → InLayer (r .site) e n
       unfolding networkOf gridOf
-      in-use-asks = (
-        (in-slots (joined-ends l .0), in-slots (joined-ends l .1), omega (arith, top-layer .thickness-least), omega (arith, top-layer .thickness-most)),
-        λ q. let tops = valid-proper r v .unconfined f (face-listed G l) (unconfined-is l ∙ q) in (
-          ≤ℤ-pos (rw (eh ∙ ap (drawdown N vs) (sym (one-is l))) (in-layer (f .one) (tops .0))),
-          ≤ℤ-pos (rw (en ∙ ap (drawdown N vs) (sym (two-is l))) (in-layer (f .two) (tops .1))),
-        ),
-      )
+      end-within {e} h q j at = ≤ℤ-pos (rw q (in-layer (numberOf G e) (top-end h j at)))
 
-      module _ (c : ℕ) (ec : pos c ≡ inUseFrom (r .screen) (r .horizontal) (r .vertical) (getD (r .site .thickness) 0 0) a b (pos here) (pos next)) where
+      pub in-use-asks : (InLimits (r .site) × (inSlots a ≡ true) × (inSlots b ≡ true) × InLayer (r .site) a here × InLayer (r .site) b next) × Lowers (r .site) a
+      in-use-asks = ((valid-limits r v, in-slots (joined-ends l .0), in-slots (joined-ends l .1), end-within (joined-ends l .0) eh, end-within (joined-ends l .1) en), lowers l)
+
+      module _ (c : ℕ) (ec : pos c ≡ inUseFrom (r .site) (r .screen) (r .horizontal) (r .vertical) a b (pos here) (pos next)) where
         in-use-is : pos c ≡ inUse N f (pos here) (pos next)
-        unfolding inUseFrom inUse reducedC saturated networkOf gridOf
-        in-use-is = ec ∙ rw (unconfined-is l, ← conductance-is l)
+        unfolding inUseFrom inUse networkOf gridOf
+        in-use-is = ec ∙ rw (rule-is l, ← conductance-is l)
 
         water-is : water (pos c) (pos here) (pos next) dt ≡ flow N vs dt f
         unfolding flow crossing

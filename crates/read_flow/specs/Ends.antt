@@ -1,12 +1,16 @@
 -- The ends of a face in the arrays of a record: for the inner contracts of this crate. And the answer where the ends are named the other way round.
-use mathlib.Core.Bool.{Bool, true, false, cond, _&&_}
+use mathlib.Core.Path.{_≡_}
+use mathlib.Core.Bool.{Bool, true, cond, _&&_}
 use mathlib.Core.List.{List}
-use Prim.Native.Nat.{ℕ, _-_}
+use Prim.Native.Nat.{ℕ, _*_, _-_, _^_, _≤_, _<_}
 use lib.Dec.{eqb, leb}
 use lib.IntN.{ℤ, pos, negℤ}
 use lib.ListN.{getD}
+use Rattle.network.specs.Network.{Rule, inUseBy}
+use Rattle.site.specs.declared.Site.{Site}
+use Rattle.site.specs.Columns.{areaAt}
 use Rattle.record.specs.Record.{slot}
-use Rattle.step_flows.specs.Flows.{reducedC}
+use Rattle.coefficient_cells.specs.Cells.{downOf}
 use Rattle.readings.specs.declared.Place.{Place}
 use Rattle.readings.specs.declared.Place.the-variants.{Well, Cell}
 use Rattle.readings.specs.declared.Amount.{Amount}
@@ -31,18 +35,22 @@ conductanceFrom screen horizontal vertical a Well = 0
 conductanceFrom screen horizontal vertical Well (Cell k l) = getD screen (k - 1) 0
 conductanceFrom screen horizontal vertical (Cell i j) (Cell k l) = getD (cond (eqb k i) horizontal vertical) (slot (i - 1) j) 0
 
--- both ends are cells of layer 1
-unfoldable pub onTable : Place → Place → Bool
-onTable Well b = false
-onTable (Cell i j) Well = false
-onTable (Cell i j) (Cell k l) = eqb i 1 && eqb k 1
+-- what C in use of that face goes by: within layer 1 its thickness, from layer 1 to layer 2 the water table
+unfoldable pub ruleFrom : Site → Place → Place → Rule
+ruleFrom s Well b = Rule.fixed
+ruleFrom s (Cell i j) Well = Rule.fixed
+ruleFrom s (Cell i j) (Cell k l) = cond (eqb i 1) (cond (eqb k i) Rule.unconfined (Rule.table (areaAt s j) (getD (s .kv) 0 0) (getD (s .thickness) 1 0) (getD (s .kv) 1 0))) Rule.fixed
 
--- C in use, from D at the ends: reduced where both are in layer 1, which is b₁ thick
-unfoldable pub inUseFrom : List ℕ → List ℕ → List ℕ → ℕ → Place → Place → ℤ → ℤ → ℤ
-inUseFrom screen horizontal vertical b₁ a b Da Db =
-    cond (onTable a b)
-    (reducedC b₁ (conductanceFrom screen horizontal vertical a b) Da Db)
-    (pos (conductanceFrom screen horizontal vertical a b))
+-- C in use, from D at the ends
+unfoldable pub inUseFrom : Site → List ℕ → List ℕ → List ℕ → Place → Place → ℤ → ℤ → ℤ
+inUseFrom s screen horizontal vertical a b Da Db = inUseBy (getD (s .thickness) 0 0) (conductanceFrom screen horizontal vertical a b) (ruleFrom s a b) Da Db
+
+-- what is asked for it: a cell of layer 1 is at a drawdown within that layer, and where it leads from one, C at s = 0 fits a word
+abbrev pub InLayer : Site → Place → ℕ → Type 0
+InLayer s e D = (j : ℕ) → e ≡ Cell 1 j → D ≤ 1000 * getD (s .thickness) 0 0
+
+abbrev pub Lowers : Site → Place → Type 0
+Lowers s e = (j : ℕ) → e ≡ Cell 1 j → (j < s .columns) × (downOf s 0 j < 2 ^ 64)
 
 -- the number with the other sign, or the same refusal
 unfoldable pub opposite : Amount → Amount

@@ -1,4 +1,5 @@
 // The water of one face between two ends that a reader names, for a step not taken.
+use coefficient_cells::areas_of;
 use limits::CELL_PLACES;
 use limits::LAYER_PLACES;
 use readings::Amount;
@@ -9,15 +10,20 @@ ghost use mathlib.Core.Path.{_≡_};
 ghost use mathlib.Core.Bool.{true};
 ghost use Prim.Native.Nat.{ℕ, _*_, _-_, _^_, _≤_, _<_};
 ghost use lib.IntN.{pos};
+ghost use lib.ListN.{getD};
 ghost use lib.Signed.{_≤ℤ_};
 ghost use Rattle.limits.specs.Limits.{lengthLimit, drawdownLimit};
 ghost use Rattle.network.specs.Network.{flow, stable};
 ghost use Rattle.network.specs.Grid.{networkOf};
+ghost use Rattle.site.specs.Columns.{areaAt};
 ghost use Rattle.record.specs.Record.{gridOf, stateOf};
+ghost use Rattle.coefficient_cells.specs.Cells.{downOf};
+ghost use Rattle.coefficient_cells.specs.Worked.{InLimits};
 ghost use Rattle.validity.specs.Validity.{valid};
 ghost use Rattle.step_drawdowns.specs.Drawdowns.{depthOf};
+ghost use Rattle.step_flows.specs.Flows.{loweredC};
 ghost use Rattle.readings.specs.Readings.{leads, faceFrom, flowOf};
-ghost use Rattle.read_flow.specs.Ends.{inSlots, lossEnd, storageEnd, onTable, inUseFrom, opposite};
+ghost use Rattle.read_flow.specs.Ends.{inSlots, lossEnd, storageEnd, inUseFrom, InLayer, Lowers, opposite};
 
 // Whether a C rule joins one end to the other, in this order: the well to column 1 of a screened layer, a stored cell to the next column or to
 // the layer below.
@@ -60,20 +66,37 @@ fn drawdown_at<'a>(
     step_drawdowns::drawdown(losses[k], storages[k])
 }
 
-// C in use of the face that leads from one end to the other, from D at them: reduced between two cells of layer 1. No face leads to the well.
+// C in use between layers 1 and 2 of column j, from D of its cell in layer 1.
+fn lowered_at(site: Site, j: u64, here: u64) -> u64
+    requires { ⌜ InLimits site × (j < site .columns) × (here ≤ 1000 * getD (site .thickness) 0 0) × (downOf site 0 j < 2 ^ 64) ⌝ }
+    ensures { λ r. ⌜ pos r ≡ loweredC (getD (site .thickness) 0 0) (getD (site .kv) 0 0) (getD (site .thickness) 1 0) (getD (site .kv) 1 0) (areaAt site j) (pos here) ⌝ }
+{
+    let areas = areas_of(site);
+    step_flows::lowered(
+        areas[j as usize],
+        site.thickness[0],
+        site.kv[0],
+        site.thickness[1],
+        site.kv[1],
+        here,
+    )
+}
+
+// C in use of the face that leads from one end to the other, from D at them: reduced between two cells of layer 1, by the water table from layer 1 to
+// layer 2. No face leads to the well.
 fn in_use<'a>(
+    site: Site,
     screen: &'a [u64; LAYER_PLACES],
     horizontal: &'a [u64; CELL_PLACES],
     vertical: &'a [u64; CELL_PLACES],
-    thickness: u64,
     from: Place,
     to: Place,
     here: u64,
     next: u64,
 ) -> u64
-    requires { ⌜ (inSlots from ≡ true) × (inSlots to ≡ true) × (0 < thickness) × (2000 * thickness < 2 ^ 64) ⌝ }
-    requires { ⌜ (onTable from to ≡ true → (here ≤ 1000 * thickness) × (next ≤ 1000 * thickness)) ⌝ }
-    ensures { λ r. ⌜ pos r ≡ inUseFrom (now (screen .entry)) (now (horizontal .entry)) (now (vertical .entry)) thickness from to (pos here) (pos next) ⌝ }
+    requires { ⌜ InLimits site × (inSlots from ≡ true) × (inSlots to ≡ true) × InLayer site from here × InLayer site to next ⌝ }
+    requires { ⌜ Lowers site from ⌝ }
+    ensures { λ r. ⌜ pos r ≡ inUseFrom site (now (screen .entry)) (now (horizontal .entry)) (now (vertical .entry)) from to (pos here) (pos next) ⌝ }
 {
     let Place::Cell(k, _) = to else {
         return 0;
@@ -83,11 +106,15 @@ fn in_use<'a>(
     };
     let first = readings::slot_of(i, j);
     if k != i {
-        return vertical[first];
+        if 1 < i {
+            return vertical[first];
+        }
+        return lowered_at(site, j, here);
     }
     if i != 1 {
         return horizontal[first];
     }
+    let thickness = site.thickness[0];
     step_flows::reduced(horizontal[first], here, next, thickness, 2000 * thickness)
 }
 
@@ -114,10 +141,10 @@ fn ahead(record: Record, from: Place, to: Place, dt: u64) -> i64
     );
     let site = record.site;
     let c = in_use(
+        site,
         &record.screen,
         &record.horizontal,
         &record.vertical,
-        site.thickness[0],
         from,
         to,
         here,

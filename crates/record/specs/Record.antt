@@ -10,6 +10,7 @@ use Rattle.limits.specs.Limits.{layerPlaces, columnPlaces, coefficientPlaces, c
 use Rattle.network.specs.Network.{State}
 use Rattle.network.specs.Grid.{Grid, onePerPlace}
 use Rattle.site.specs.declared.Site.{Site}
+use Rattle.site.specs.Columns.{areaAt}
 use Rattle.site.specs.Site.{isScreened}
 use Rattle.record.specs.declared.Record.{Record}
 use Rattle.record.specs.declared.Answer.{Answer}
@@ -92,6 +93,10 @@ gridOf r = record {
   storage = λ i j. getD (r .storages) (slot i j) 0;
   wellStorage = r .«well_storage»;
   thickness = getD (r .site .thickness) 0 0;
+  area = areaAt (r .site);
+  kv₁ = getD (r .site .kv) 0 0;
+  thickness₂ = getD (r .site .thickness) 1 0;
+  kv₂ = getD (r .site .kv) 1 0;
   intake = r .site .intake;
 }
 

@@ -14,7 +14,7 @@ pub struct Record {
     pub site: Site, // the numbers of the first four sections
     pub screen: [u64; LAYER_PLACES], // C between the well and column 1, 10^-12 m²/s
     pub horizontal: [u64; CELL_PLACES], // C between the cell and the next column, 10^-12 m²/s
-    pub vertical: [u64; CELL_PLACES], // C between the cell and the layer below, 10^-12 m²/s
+    pub vertical: [u64; CELL_PLACES], // C between the cell and the layer below, 10^-12 m²/s; from layer 1 the value at s = 0
     pub storages: [u64; CELL_PLACES], // S of the cell, nl per m
     pub losses: [i64; CELL_PLACES], // V of the cell, nl
     pub well_storage: u64, // S of the well, nl per m

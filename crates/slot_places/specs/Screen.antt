@@ -1,22 +1,22 @@
 -- The water between the well and column 1 of a valid record's layers, by slot and by face, is the same: laws only, nothing to believe.
 --     water-none           no water crosses at C = 0
+--     fixed-below          below layer 1 C is in use as it is
 --     screen-water         where a layer is screened, it is that of the well's face; where not, 0
 --     screen-small         it is within its limit where 8 does not refuse
 use mathlib.Core.Path.{_≡_, refl, sym, ap, ap₂, _∙_}
-use mathlib.Core.Bool.{Bool, true, false, cond, and-false, true≢false}
+use mathlib.Core.Bool.{Bool, true, false, and-false, true≢false}
 use mathlib.Core.List.{List}
-use Prim.Native.Nat.{ℕ, suc, _+_, _*_, _^_, _≤_, _<_, zero-le}
+use Prim.Native.Nat.{ℕ, zero, suc, _+_, _*_, _^_, _≤_, _<_, zero-le}
 use native.Mathlib.Nat.{le-trans, zero-mul, zero-div}
 use native.Mathlib.Omega.{arith}
 use lib.Dec.{ltb}
-use lib.IntN.{ℤ, pos, negsuc, natAbs, _-ℤ_, _+ℤ_, _*ℤ_}
+use lib.IntN.{ℤ, pos, negsuc, natAbs, _-ℤ_, _*ℤ_}
 use lib.ListN.{getD}
-use lib.Signed.{quotZ, shrZ}
-use borrow.Author.Tests.{ne-eqb}
+use lib.Signed.{quotZ}
 use Rattle.laws.specs.Lists.{ifℤ}
 use Rattle.limits.specs.Limits.{totalLimit}
-use Rattle.network.specs.Network.{Network, drawdown, saturated, inUse, water, crossing, flow, stable}
-use Rattle.network.specs.Grid.{place, acrossFace, networkOf}
+use Rattle.network.specs.Network.{Rule, Network, drawdown, inUseBy, inUse, water, crossing, flow, stable}
+use Rattle.network.specs.Grid.{place, acrossRule, acrossFace, networkOf}
 use Rattle.network.specs.laws.Bounds.{face-fits}
 use Rattle.network.specs.laws.Cells.{joined}
 use Rattle.network.specs.laws.Places.{place-well}
@@ -36,6 +36,12 @@ water-none Da Db dt = go (Db -ℤ Da)
     go (pos n) = rw (zero-mul n, zero-mul dt, zero-div (10 ^ 12))
     go (negsuc n) = rw (zero-mul (suc n), zero-mul dt, zero-div (10 ^ 12))
 
+-- below layer 1 C is in use as it is
+pub fixed-below : (i : ℕ) → (i ≡ 0 → ⊥) → acrossRule i ≡ Rule.fixed
+unfolding acrossRule
+fixed-below zero f = absurd (f refl)
+fixed-below (suc i) f = refl
+
 module _ (r : Record) (v : Valid r) (dt : ℕ) where
   abbrev N : Network
   N = networkOf (gridOf r)
@@ -49,14 +55,14 @@ module _ (r : Record) (v : Valid r) (dt : ℕ) where
 
   -- the well has a face where the layer is screened, and layer 1 is not
   pub screen-water : (i : ℕ) → i < r .site .layers → wellWater i ≡ ifℤ (isScreened (r .site .screened) i) (flow N vs dt (acrossFace (gridOf r) i 0))
-  unfolding ifℤ flow crossing inUse acrossFace acrossIn networkOf gridOf hasScreen
+  unfolding ifℤ flow crossing inUse inUseBy acrossFace acrossIn networkOf gridOf hasScreen
   screen-water i hi = go (isScreened (r .site .screened) i) refl
     where
       go : (t : Bool) → isScreened (r .site .screened) i ≡ t → wellWater i ≡ ifℤ t (flow N vs dt (acrossFace (gridOf r) i 0))
       go true e =
           ap₂ (λ x y. water (pos (getD (r .screen) i 0)) x y dt) (depth-well r v ∙ ap (drawdown N vs) (sym (place-well (gridOf r) i)))
           (ap (depthAt (r .losses) (r .storages)) next ∙ depth-column r v i 0 hi (omega (arith, counted r v .columns-least)))
-          ∙ ap (λ t. water (cond t (shrZ (pos (getD (r .screen) i 0) *ℤ (saturated N (drawdown N vs (place (gridOf r) i 0)) +ℤ saturated N (drawdown N vs (place (gridOf r) i 1)))) (2000 * getD (r .site .thickness) 0 0)) (pos (getD (r .screen) i 0))) (drawdown N vs (place (gridOf r) i 0)) (drawdown N vs (place (gridOf r) i 1)) dt) (sym (ne-eqb i 0 below))
+          ∙ ap (λ rule. water (inUseBy (getD (r .site .thickness) 0 0) (getD (r .screen) i 0) rule (drawdown N vs (place (gridOf r) i 0)) (drawdown N vs (place (gridOf r) i 1))) (drawdown N vs (place (gridOf r) i 0)) (drawdown N vs (place (gridOf r) i 1)) dt) (sym (fixed-below i below))
         where
           next : 50 * i ≡ 50 * i + 0
           next = omega arith

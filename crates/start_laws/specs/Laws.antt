@@ -83,6 +83,12 @@ start-coefficients s counts e =
       storage = λ i j h one k. rw (storage-at put s known i j h one k) (limits .storage i j h one k);
     })
 
+-- ---- the C kept between layers 1 and 2 is the scenario's
+start-table : (s : Site) → countsHold s ≡ true → (j : ℕ) → 1 ≤ j → j < s .columns → gridOf (startRecord s) .down 0 j ≡ downOf s 0 j
+start-table s counts j one k =
+    let known = site.counts-hold s counts in
+    rw (start-slotted s) (down-at (λ used n. cond used n 0) s known 0 j (omega (arith, known .layers-least)) one k)
+
 -- ---- what an accepted text has passed
 record Passed (text : List ℕ) : Type 0 where
   form : Form (numbers text)
@@ -127,6 +133,7 @@ module _ (text : List ℕ) where
     lossesUnused = losses-unused (scenarioOf text);
     coefficients = start-coefficients (scenarioOf text) (p .counts) (p .coefficients);
     wellStorage = refl;
+    table = start-table (scenarioOf text) (p .counts);
     kept = rw (start-network (scenarioOf text) (p .counts), start-state (scenarioOf text) (p .counts)) (kept-at-rest (networkOf (scenarioGrid (scenarioOf text))));
   })
 

@@ -8,10 +8,13 @@ ghost use lib.ListN.{getD};
 ghost use Rattle.laws.specs.Fill.{fill};
 ghost use Rattle.laws.specs.Span.{span, spans};
 ghost use Rattle.limits.specs.Limits.{lengthLimit, totalLimit, drawdownLimit};
+ghost use Rattle.geometry.specs.Geometry.{fromTable};
 ghost use Rattle.network.specs.Network.{water};
-ghost use Rattle.step_flows.specs.Flows.{reducedC, reducedAt, flowAt};
+ghost use Rattle.step_flows.specs.Flows.{reducedC, reducedAt, loweredC, Tabled, flowAt, tableFlowAt, downFlowAt};
+use geometry::from_table;
 use limits::CELL_PLACES;
 use limits::COLUMN_PLACES;
+use words::Quotient;
 use words::divide::quotient_word;
 
 // C in use of a horizontal face of layer 1; `divisor` is 2000×b_1.
@@ -40,6 +43,18 @@ pub fn in_use<'a>(
     while k < faces {
         conductances[k] = reduced(horizontal[k], depths[k], depths[k + 1], thickness, divisor);
         k += 1;
+    }
+}
+
+// C in use of a face between layers 1 and 2 over an area, where layer 1 is at drawdown `here`. It is at most the value at s = 0, and so over no word.
+pub fn lowered(a: u64, thickness: u64, kv1: u64, b2: u64, kv2: u64, here: u64) -> u64
+    requires { ⌜ (a ≤ 2 ^ 44) × (thickness ≤ 1000000) × (kv1 ≤ 100000000) × (0 < b2) × (b2 ≤ 1000000) × (kv2 ≤ 100000000) ⌝ }
+    requires { ⌜ (here ≤ 1000 * thickness) × (fromTable a kv1 b2 kv2 0 < 2 ^ 64) ⌝ }
+    ensures { λ r. ⌜ pos r ≡ loweredC thickness kv1 b2 kv2 a (pos here) ⌝ }
+{
+    match from_table(a, kv1, b2, kv2, 1000 * thickness - here) {
+        Quotient::Word(c) => c,
+        Quotient::Over => 0,
     }
 }
 
@@ -78,21 +93,52 @@ fn down_row<'a>(
     }
 }
 
+// Water from the first `stored` cells of layer 1 to layer 2.
+fn table_row<'a>(
+    areas: &'a [u64; COLUMN_PLACES],
+    depths: &'a [u64; CELL_PLACES],
+    thickness: u64,
+    kv1: u64,
+    b2: u64,
+    kv2: u64,
+    stored: usize,
+    dt: u64,
+    down: &mut [i64; CELL_PLACES],
+)
+    requires { ⌜ (stored ≤ 49) × (dt ≤ lengthLimit) × Tabled thickness kv1 b2 kv2 (now areas) stored ⌝ }
+    requires { ⌜ ((k : ℕ) → getD (now depths) k 0 ≤ drawdownLimit) × ((k : ℕ) → k < stored → getD (now depths) k 0 ≤ 1000 * thickness) ⌝ }
+    requires { ⌜ ((k : ℕ) → k < stored → natAbs (tableFlowAt thickness kv1 b2 kv2 (now areas) (now depths) dt k) ≤ totalLimit) ⌝ }
+    ensures { λ r. ⌜ now (down .exit) ≡ fill stored (tableFlowAt thickness kv1 b2 kv2 (now (areas .entry)) (now (depths .entry)) dt) (now (down .entry)) ⌝ }
+{
+    let mut k: usize = 0;
+    while k < stored {
+        let c = lowered(areas[k + 1], thickness, kv1, b2, kv2, depths[k]);
+        down[k] = crossing(c, depths[k], depths[k + COLUMN_PLACES], dt);
+        k += 1;
+    }
+}
+
 // Water from each cell of the first `layers` layers, in `stored` columns, to the layer below; the other slots stay.
 pub fn down_flows<'a>(
+    areas: &'a [u64; COLUMN_PLACES],
     vertical: &'a [u64; CELL_PLACES],
     depths: &'a [u64; CELL_PLACES],
+    thickness: u64,
+    kv1: u64,
+    b2: u64,
+    kv2: u64,
     layers: usize,
     stored: usize,
     dt: u64,
     down: &mut [i64; CELL_PLACES],
 )
-    requires { ⌜ (layers ≤ 19) × (stored ≤ 50) × (dt ≤ lengthLimit) ⌝ }
-    requires { ⌜ ((k : ℕ) → getD (now depths) k 0 ≤ drawdownLimit) ⌝ }
-    requires { ⌜ ((k : ℕ) → k < 50 * layers → natAbs (flowAt (now vertical) (now depths) 50 dt k) ≤ totalLimit) ⌝ }
-    ensures { λ r. ⌜ now (down .exit) ≡ spans stored layers (flowAt (now (vertical .entry)) (now (depths .entry)) 50 dt) (now (down .entry)) ⌝ }
+    requires { ⌜ (1 ≤ layers) × (layers ≤ 19) × (stored ≤ 49) × (dt ≤ lengthLimit) × Tabled thickness kv1 b2 kv2 (now areas) stored ⌝ }
+    requires { ⌜ ((k : ℕ) → getD (now depths) k 0 ≤ drawdownLimit) × ((k : ℕ) → k < stored → getD (now depths) k 0 ≤ 1000 * thickness) ⌝ }
+    requires { ⌜ ((k : ℕ) → k < 50 * layers → natAbs (downFlowAt thickness kv1 b2 kv2 (now areas) (now vertical) (now depths) stored dt k) ≤ totalLimit) ⌝ }
+    ensures { λ r. ⌜ now (down .exit) ≡ spans stored layers (downFlowAt thickness kv1 b2 kv2 (now (areas .entry)) (now (vertical .entry)) (now (depths .entry)) stored dt) (now (down .entry)) ⌝ }
 {
-    let mut i: usize = 0;
+    table_row(areas, depths, thickness, kv1, b2, kv2, stored, dt, down);
+    let mut i: usize = 1;
     while i < layers {
         down_row(vertical, depths, COLUMN_PLACES * i, stored, dt, down);
         i += 1;

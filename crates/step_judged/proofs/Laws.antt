@@ -89,11 +89,11 @@ module _ (a : Lent) (p volume t : ℕ) where
   taken e w i l = (rw (← e, w, i), rw (← e, l))
 
 -- where 9 lets the step pass, the number that halts it is the first of 10 and 11
-pub judged : {v : ℤ} {ls : List ℤ} (terms : Terms) (well inflow : ℤ) (screen horizontal vertical storages : List ℕ) (losses : List ℤ) (volume t : ℕ)
-    → let a = lent terms well inflow screen horizontal vertical storages losses in
+pub judged : {v : ℤ} {ls : List ℤ} (terms : Terms) (well inflow : ℤ) (areas screen horizontal vertical storages : List ℕ) (losses : List ℤ) (volume t : ℕ)
+    → let a = lent terms well inflow areas screen horizontal vertical storages losses in
     totalsFull volume t (terms .rate) (terms .dt) ≡ false → v ≡ wellAfter a → ls ≡ lossesOf a → tooDeep terms v storages ls ≡ halts a (terms .intake) volume t
 unfolding tooDeep halts first
-judged terms well inflow screen horizontal vertical storages losses volume t room w l = rw (room, w, l)
+judged terms well inflow areas screen horizontal vertical storages losses volume t room w l = rw (room, w, l)
 
 -- ---- the losses given back
 

@@ -84,6 +84,7 @@ fn too_deep<'a>(
 pub fn advance<'a>(
     terms: Terms,
     course: Course,
+    areas: &'a [u64; COLUMN_PLACES],
     screen: &'a [u64; LAYER_PLACES],
     horizontal: &'a [u64; CELL_PLACES],
     vertical: &'a [u64; CELL_PLACES],
@@ -95,10 +96,10 @@ pub fn advance<'a>(
     down: &mut [i64; CELL_PLACES],
     before: &mut [i64; CELL_PLACES],
 ) -> Advanced
-    requires { ⌜ Advancing (lent terms (course .«well_loss») (course .inflow) (now screen) (now horizontal) (now vertical) (now storages) (now losses)) (terms .intake) (course .pumped) (course .time) ⌝ }
+    requires { ⌜ Advancing (lent terms (course .«well_loss») (course .inflow) (now areas) (now screen) (now horizontal) (now vertical) (now storages) (now losses)) (terms .intake) (course .pumped) (course .time) ⌝ }
     requires { ⌜ Multiplied (now multipliers) (now storages) × Stands (terms .«well_multiplier») (terms .«well_storage») ⌝ }
     requires { ⌜ Scratch (terms .layers) (terms .columns) (now horizontal) (now depths) (now conductances) (now down) (now before) ⌝ }
-    ensures { λ r. ⌜ Advances (lent terms (course .«well_loss») (course .inflow) (now (screen .entry)) (now (horizontal .entry)) (now (vertical .entry)) (now (storages .entry)) (now (losses .entry))) (terms .intake) (course .pumped) (course .time) r (now (losses .exit)) (now (depths .exit)) (now (conductances .exit)) (now (down .exit)) (now (before .exit)) ⌝ }
+    ensures { λ r. ⌜ Advances (lent terms (course .«well_loss») (course .inflow) (now (areas .entry)) (now (screen .entry)) (now (horizontal .entry)) (now (vertical .entry)) (now (storages .entry)) (now (losses .entry))) (terms .intake) (course .pumped) (course .time) r (now (losses .exit)) (now (depths .exit)) (now (conductances .exit)) (now (down .exit)) (now (before .exit)) ⌝ }
 {
     if step_conditions::totals_pass(course.pumped, course.time, terms.rate, terms.dt) {
         return halted(9, course);
@@ -109,6 +110,7 @@ pub fn advance<'a>(
         terms,
         well_loss,
         inflow,
+        areas,
         screen,
         horizontal,
         vertical,

@@ -61,15 +61,6 @@ module _ {v right lower left upper v′ right′ lower′ left′ upper′ : ℤ
   pub parts-sum : v +ℤ right +ℤ lower -ℤ left -ℤ upper ≡ v′ +ℤ right′ +ℤ lower′ -ℤ left′ -ℤ upper′
   parts-sum = rw (p, q, d, e, u)
 
--- functions that agree on a span make the same of it
-pub span-ext : {A : Type 0} (f g : ℕ → A) (l : List A) (s n : ℕ) → ((k : ℕ) → k < n → f (s + k) ≡ g (s + k)) → span s n f l ≡ span s n g l
-unfolding span
-span-ext f g l s zero h = refl
-span-ext f g l s (suc n) h =
-    let e : span s n f l ≡ span s n g l = span-ext f g l s n (λ k lt. h k (omega arith)) in
-    let q : f (s + n) ≡ g (s + n) = h n (omega arith) in
-    rw (e, q)
-
 -- what stands after the spans stays
 module _ {A : Type 0} (f : ℕ → A) (l : List A) (k : ℕ) (d : A) where
   pub span-rest : (s n : ℕ) → s + n ≤ k → getD (span s n f l) k d ≡ getD l k d

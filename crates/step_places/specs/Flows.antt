@@ -9,19 +9,20 @@ use native.Mathlib.Omega.{arith}
 use lib.Dec.{eqb, ltb}
 use lib.IntN.{ℤ, pos}
 use lib.ListN.{getD}
-use borrow.Author.Tests.{eqb-true, lt-ltb, le-leb, lt-leb, ltb-true, ne-eqb, eq-eqb}
+use borrow.Author.Tests.{eqb-true, lt-ltb, le-ltb, le-leb, lt-leb, ltb-true, ne-eqb, eq-eqb}
 use Rattle.laws.specs.Lists.{ifℤ}
 use Rattle.laws.specs.Rows.{same-test}
-use Rattle.network.specs.Network.{Network, drawdown, saturated, inUse, water, crossing, flow}
-use Rattle.network.specs.Grid.{place, acrossFace, downFace, networkOf}
+use Rattle.network.specs.Network.{Network, drawdown, inUseBy, inUse, water, crossing, flow}
+use Rattle.network.specs.Grid.{place, acrossRule, downRule, acrossFace, downFace, networkOf}
 use Rattle.network.specs.laws.Cells.{joined}
 use Rattle.site.specs.Site.{isScreened}
 use Rattle.record.specs.declared.Record.{Record}
 use Rattle.record.specs.Record.{slot, acrossIn, gridOf, stateOf}
-use Rattle.validity.specs.Laws.{Valid}
-use Rattle.step_flows.specs.Flows.{reducedC}
+use Rattle.coefficient_cells.specs.Laws.{areas-of}
+use Rattle.validity.specs.Laws.{Valid, valid-limits}
+use Rattle.step_flows.specs.Flows.{reducedC, loweredC}
 use Rattle.step_losses.specs.Losses.{left, upper}
-use Rattle.step_sweep.specs.Worked.{Lent, depth, wellDepth, conductance, right, lower, wellFlow, waterOf, toLast}
+use Rattle.step_sweep.specs.Worked.{Lent, depth, wellDepth, conductance, lowerConductance, right, lower, wellFlow, waterOf, toLast}
 use Rattle.slot_places.specs.Screen.{water-none, screen-water}
 use Rattle.slot_places.specs.Slots.{slot-at, counted, across-past, down-past, depth-column}
 use Rattle.step_sweep.specs.Laws.{reduced-none}
@@ -57,25 +58,51 @@ module _ (r : Record) (v : Valid r) (rate dt : ℕ) where
     right-past = rw (across-past r v k h past, reduced-none, cond-same (ltb (k + 1) (r .site .columns)) (pos 0)) (water-none (depth a k) (depth a (k + 1)) dt)
 
     pub lower-past : lower a k ≡ pos 0
-    unfolding lower ifℤ
-    lower-past = rw (down-past r v k h past, water-none) (none (ltb (k + 50) (50 * r .site .layers)))
+    unfolding lower lowerConductance ifℤ
+    lower-past =
+        rw (le-ltb (k + 1) (r .site .columns) (omega (arith, counted r v .columns-most)), down-past r v k h past, water-none)
+        (none (ltb (k + 50) (50 * r .site .layers)))
       where
         none : (t : Bool) → ifℤ t (pos 0) ≡ pos 0
         none t = elim t [ true ↦ refl | false ↦ refl ]
 
   -- ---- water
 
+  abbrev b₁ : ℕ
+  b₁ = getD (r .site .thickness) 0 0
+
+  -- the slots before the last column are those of layer 1
+  first-row : (i j : ℕ) → suc j < r .site .columns → ltb (50 * i + j + 1) (r .site .columns) ≡ eqb i 0
+  first-row i j hj = same-test _ _ (λ e. eq-eqb i 0 (omega (arith, ltb-true (50 * i + j + 1) (r .site .columns) e, counted r v .columns-most)))
+      (λ e. lt-ltb (50 * i + j + 1) (r .site .columns) (omega (arith, eqb-true i 0 e)))
+
   in-use-cell : (i j : ℕ) (Da Db : ℤ) → suc j < r .site .columns
-      → cond (ltb (50 * i + j + 1) (r .site .columns)) (reducedC (getD (r .site .thickness) 0 0) (getD (r .horizontal) (50 * i + j) 0) Da Db) (pos (getD (r .horizontal) (50 * i + j) 0))
+      → cond (ltb (50 * i + j + 1) (r .site .columns)) (reducedC b₁ (getD (r .horizontal) (50 * i + j) 0) Da Db) (pos (getD (r .horizontal) (50 * i + j) 0))
       ≡ inUse N (acrossFace (gridOf r) i (suc j)) Da Db
-  unfolding reducedC inUse saturated networkOf gridOf acrossFace acrossIn
+  unfolding inUse inUseBy reducedC networkOf gridOf acrossFace acrossRule acrossIn
   in-use-cell i j Da Db hj =
-      ap (λ t. cond t (reducedC (getD (r .site .thickness) 0 0) (getD (r .horizontal) (50 * i + j) 0) Da Db) (pos (getD (r .horizontal) (50 * i + j) 0))) top
-      ∙ ap (λ n. cond (eqb i 0) (reducedC (getD (r .site .thickness) 0 0) (getD (r .horizontal) n 0) Da Db) (pos (getD (r .horizontal) n 0))) (sym (slot-at i j))
+      ap (λ t. cond t (reducedC b₁ (getD (r .horizontal) (50 * i + j) 0) Da Db) (pos (getD (r .horizontal) (50 * i + j) 0))) (first-row i j hj)
+      ∙ ap (λ n. cond (eqb i 0) (reducedC b₁ (getD (r .horizontal) n 0) Da Db) (pos (getD (r .horizontal) n 0))) (sym (slot-at i j))
+      ∙ by-layer i (getD (r .horizontal) (slot i (suc j)) 0)
     where
-      top : ltb (50 * i + j + 1) (r .site .columns) ≡ eqb i 0
-      top = same-test _ _ (λ e. eq-eqb i 0 (omega (arith, ltb-true (50 * i + j + 1) (r .site .columns) e, counted r v .columns-most)))
-          (λ e. lt-ltb (50 * i + j + 1) (r .site .columns) (omega (arith, eqb-true i 0 e)))
+      by-layer : (i c : ℕ) → cond (eqb i 0) (reducedC b₁ c Da Db) (pos c) ≡ inUseBy b₁ c (acrossRule i) Da Db
+      by-layer zero c = refl
+      by-layer (suc i) c = rw (ne-eqb (suc i) 0 (λ e. absurd (omega arith)))
+
+  in-use-lower : (i j : ℕ) (Da Db : ℤ) → suc j < r .site .columns
+      → cond (ltb (50 * i + j + 1) (r .site .columns)) (loweredC b₁ (a .kv₁) (a .b₂) (a .kv₂) (getD (a .areas) (50 * i + j + 1) 0) Da) (pos (getD (r .vertical) (50 * i + j) 0))
+      ≡ inUse N (downFace (gridOf r) i (suc j)) Da Db
+  unfolding inUse inUseBy loweredC networkOf gridOf downFace downRule
+  in-use-lower i j Da Db hj =
+      ap (λ t. cond t (loweredC b₁ (a .kv₁) (a .b₂) (a .kv₂) (getD (a .areas) (50 * i + j + 1) 0) Da) (pos (getD (r .vertical) (50 * i + j) 0))) (first-row i j hj)
+      ∙ ap (λ n. cond (eqb i 0) (loweredC b₁ (a .kv₁) (a .b₂) (a .kv₂) (getD (a .areas) (50 * i + j + 1) 0) Da) (pos (getD (r .vertical) n 0))) (sym (slot-at i j))
+      ∙ by-layer i (getD (r .vertical) (slot i (suc j)) 0)
+    where
+      by-layer : (i c : ℕ) → cond (eqb i 0) (loweredC b₁ (a .kv₁) (a .b₂) (a .kv₂) (getD (a .areas) (50 * i + j + 1) 0) Da) (pos c) ≡ inUseBy b₁ c (downRule (gridOf r) i (suc j)) Da Db
+      by-layer zero c =
+          let column : 50 * 0 + j + 1 ≡ suc j = omega arith in
+          rw (column, areas-of (r .site) (valid-limits r v) .at (suc j) hj)
+      by-layer (suc i) c = rw (ne-eqb (suc i) 0 (λ e. absurd (omega arith)))
 
   pub right-cell : (i j : ℕ) → i < r .site .layers → suc j < r .site .columns → right a (50 * i + j) ≡ flow N vs dt (acrossFace (gridOf r) i (suc j))
   unfolding right conductance flow crossing acrossFace
@@ -88,14 +115,17 @@ module _ (r : Record) (v : Valid r) (rate dt : ℕ) where
       next = omega arith
 
   pub lower-cell : (i j : ℕ) → i < r .site .layers → suc j < r .site .columns → lower a (50 * i + j) ≡ ifℤ (ltb (suc i) (r .site .layers)) (flow N vs dt (downFace (gridOf r) i (suc j)))
-  unfolding lower flow crossing inUse downFace networkOf gridOf
+  unfolding lower lowerConductance flow crossing downFace
   lower-cell i j hi hj =
-      ap (λ t. ifℤ t (water (pos (getD (r .vertical) (50 * i + j) 0)) (depth a (50 * i + j)) (depth a (50 * i + j + 50)) dt)) below
+      ap (λ t. ifℤ t (lowerWater (depth a (50 * i + j)) (depth a (50 * i + j + 50)))) below
       ∙ if-same (ltb (suc i) (r .site .layers)) (λ e.
-      ap (λ n. water (pos (getD (r .vertical) n 0)) (depth a (50 * i + j)) (depth a (50 * i + j + 50)) dt) (sym (slot-at i j))
-      ∙ ap₂ (λ x y. water (pos (getD (r .vertical) (slot i (suc j)) 0)) x y dt) (depth-of i j hi (omega arith))
+      ap (λ c. water c (depth a (50 * i + j)) (depth a (50 * i + j + 50)) dt) (in-use-lower i j (depth a (50 * i + j)) (depth a (50 * i + j + 50)) hj)
+      ∙ ap₂ (λ x y. water (inUse N (downFace (gridOf r) i (suc j)) x y) x y dt) (depth-of i j hi (omega arith))
       (ap (depth a) next ∙ depth-of (suc i) j (ltb-true _ _ e) (omega arith)))
     where
+      lowerWater : ℤ → ℤ → ℤ
+      lowerWater x y = water (lowerConductance a (50 * i + j)) x y dt
+
       next : 50 * i + j + 50 ≡ 50 * suc i + j
       next = omega arith
 

@@ -34,7 +34,9 @@ use Rattle.site.specs.Limited.{LayerNumbers}
 use Rattle.site.specs.Site.{isScreened}
 use Rattle.record.specs.declared.Record.{Record}
 use Rattle.record.specs.Record.{slots, isCell, gridOf, stateOf}
-use Rattle.validity.specs.Laws.{Valid, valid-proper}
+use Rattle.coefficient_cells.specs.Cells.{downOf}
+use Rattle.coefficient_cells.specs.Laws.{areas-of}
+use Rattle.validity.specs.Laws.{Valid, valid-proper, valid-limits, table-fits}
 use Rattle.step_losses.specs.Losses.{left, upper, changed}
 use Rattle.step_sweep.specs.Worked.{Lent, depth, wellDepth, right, lower, wellFlow, waterOf, toLast, slotAfter, wellAfter, inflowAfter, lossesOf, Workable}
 use Rattle.slot_places.specs.Screen.{screen-small}
@@ -107,11 +109,20 @@ module _ (r : Record) (v : Valid r) (rate dt : ℕ) where
         (room-up (last-room (gridOf r) (valid-proper r v) s (v .kept) dt st (omega (arith, counted r v .columns-least))) (v .kept .pumped))
 
     pub workable : rate ≤ rateLimit → dt ≤ lengthLimit → Workable a
-    unfolding depth wellDepth wellFlow
+    unfolding depth wellDepth wellFlow downOf
     workable small short = record {
-      layers = (omega (arith, counted r v .layers-least), counted r v .layers-most);
+      layers = (counted r v .layers-least, counted r v .layers-most);
       columns = (counted r v .columns-least, counted r v .columns-most);
       thickness = (omega (arith, top-layer .thickness-least), omega (arith, top-layer .thickness-most));
+      tabled = record {
+        thickness-most = top-layer .thickness-most;
+        kv₁-most = top-layer .kv-most;
+        b₂-least = next-layer .thickness-least;
+        b₂-most = next-layer .thickness-most;
+        kv₂-most = next-layer .kv-most;
+        areas-most = λ k h. areas-of (r .site) (valid-limits r v) .most (k + 1) (omega arith);
+        fits = λ k h. let column : k + 1 < columns = omega arith in rw (areas-of (r .site) (valid-limits r v) .at (k + 1) column) (table-fits r v (k + 1) (omega arith) column);
+      };
       rate = small;
       dt = short;
       storages = storage-small r v;
@@ -135,6 +146,9 @@ module _ (r : Record) (v : Valid r) (rate dt : ℕ) where
 
         top-layer : LayerNumbers (r .site) 0
         top-layer = numbers-hold (r .site) (v .numbers) .layer 0 (omega (arith, counted r v .layers-least))
+
+        next-layer : LayerNumbers (r .site) 1
+        next-layer = numbers-hold (r .site) (v .numbers) .layer 1 (counted r v .layers-least)
 
   -- ---- what it gives
 

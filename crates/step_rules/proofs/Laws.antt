@@ -42,6 +42,7 @@ use Rattle.step_sweep.specs.Worked.{Lent, lent, lossesOf, Scratch}
 use Rattle.step_judged.specs.declared.Advanced.{Advanced}
 use Rattle.step_judged.specs.Course.{wellDeep, tableDeep, halts, courseAfter, lossesKept, advancedOf, keptOf, Advancing, Advances}
 use Rattle.step_judged.proofs.Laws as course
+use Rattle.coefficient_cells.specs.Worked.{areasOf}
 use Rattle.step_places.specs.Terms.{termsOf, lentOf}
 use Rattle.step_places.specs.Worked.{workable, worked-well, worked-inflow, worked-losses, worked-cell}
 use Rattle.step_rules.specs.Step.{withState, stepRefusal, stepOf}
@@ -175,18 +176,18 @@ module _ (r : Record) (rate dt : ℕ) where
     by-number zero = rw (worked-losses r v rate dt, worked-well r v rate dt, worked-inflow r v rate dt)
     by-number (suc n) = refl
 
-    -- what `advance` asks and gives, by the terms of the record's run
-    module _ {terms : Terms} {multiplier : ℕ} (e : terms ≡ termsOf r multiplier rate dt) where
+    -- what `advance` asks and gives, by the terms of the record's run and its columns' areas
+    module _ {terms : Terms} {multiplier : ℕ} {areas : List ℕ} (e : terms ≡ termsOf r multiplier rate dt) (w : areas ≡ areasOf (r .site)) where
       abbrev held : Lent
-      held = lent terms (r .«well_loss») (r .inflow) (r .screen) (r .horizontal) (r .vertical) (r .storages) (r .losses)
+      held = lent terms (r .«well_loss») (r .inflow) areas (r .screen) (r .horizontal) (r .vertical) (r .storages) (r .losses)
 
       pub asks-terms : Advancing held (terms .intake) (r .pumped) (r .time)
-      asks-terms = rw e asks
+      asks-terms = rw (e, w) asks
 
       pub stepped : {x : Advanced} {ls : List ℤ} {ds cs : List ℕ} {ws vs : List ℤ} → Advances held (terms .intake) (r .pumped) (r .time) x ls ds cs ws vs
           → _≡_ {A = Answer} (record { outcome = x .outcome; «record» = withCourse r (x .course) ls }) (stepOf r rate dt)
       unfolding stepOf advancedOf keptOf
-      stepped h = let g = rw e at h in rw (g .answer, g .losses, refusal-is) (by-number (halts a (r .site .intake) (r .pumped) (r .time)))
+      stepped h = let g = rw (e, w) at h in rw (g .answer, g .losses, refusal-is) (by-number (halts a (r .site .intake) (r .pumped) (r .time)))
 
 pub scratch-zeros : (layers columns : ℕ) (horizontal : List ℕ) → Scratch layers columns horizontal (replicate 1000 0) horizontal (replicate 1000 (pos 0)) (replicate 1000 (pos 0))
 scratch-zeros layers columns horizontal = record {

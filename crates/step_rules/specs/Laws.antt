@@ -19,6 +19,7 @@ use Rattle.network.specs.Grid.{Grid, place, placeCount, networkOf, onePerPlace}
 use Rattle.network.specs.Kept.{Kept}
 use Rattle.network.specs.laws.Places.{one-per-place}
 use Rattle.network.specs.laws.Preserve.{kept-moved}
+use Rattle.site.specs.Columns.{areaAt}
 use Rattle.site.specs.Laws.{counts-hold}
 use Rattle.site.specs.Limited.{Counts}
 use Rattle.site.specs.Site.{isScreened}
@@ -55,6 +56,10 @@ module _ (r : Record) (s : State) where
     storage = λ i j. getD (r .storages) (slot i j) 0;
     wellStorage = r .«well_storage»;
     thickness = getD (r .site .thickness) 0 0;
+    area = areaAt (r .site);
+    kv₁ = getD (r .site .kv) 0 0;
+    thickness₂ = getD (r .site .thickness) 1 0;
+    kv₂ = getD (r .site .kv) 1 0;
     intake = r .site .intake;
   }) same-across
 
@@ -110,6 +115,7 @@ module _ (r : Record) (rate dt : ℕ) where
     lossesUnused = none-unused r next;
     coefficients = rw (same-grid r next) (v .coefficients);
     wellStorage = v .wellStorage;
+    table = λ j one k. rw (same-grid r next) (v .table j one k);
     kept = rw (same-grid r next, same-state r next (counts-hold (r .site) (v .counts)) (kept .listed)) kept;
   })
     where

@@ -47,6 +47,9 @@ fn terms_of(record: Record, rate: u64, dt: u64) -> Terms
         layers: site.layers as usize,
         columns: site.columns as usize,
         thickness: site.thickness[0],
+        kv1: site.kv[0],
+        b2: site.thickness[1],
+        kv2: site.kv[1],
         intake: site.intake,
         well_storage,
         well_multiplier: step_drawdowns::multiplier(well_storage),
@@ -75,6 +78,8 @@ pub fn run(record: Record, rate: u64, dt: u64, steps: u64) -> Ran
     ensures { λ r. ⌜ r ≡ ranOf (stepsOf rate dt 0 steps «record») ⌝ }
 {
     let terms = terms_of(record, rate, dt);
+    let site = record.site;
+    let areas = coefficient_cells::areas_of(site);
     let multipliers = step_drawdowns::multipliers(
         &record.storages,
         slots_built(steps, terms.layers),
@@ -90,6 +95,7 @@ pub fn run(record: Record, rate: u64, dt: u64, steps: u64) -> Ran
         let advanced = step_judged::advance(
             terms,
             course,
+            &areas,
             &record.screen,
             &record.horizontal,
             &record.vertical,

@@ -15,16 +15,15 @@ use borrow.Author.Tests.{lt-ltb, le-ltb}
 use Rattle.laws.specs.Fill.{fill, length-fill, getD-fill, getD-fill-rest, fill-ext, fill-every, getD-same}
 use Rattle.laws.specs.Integer.{≤ℤ-pos, pos-≤ℤ, natural}
 use Rattle.laws.specs.Signed.{room-up}
-use Rattle.laws.specs.Span.{span, spans, spans-fill, fill-alike}
+use Rattle.laws.specs.Span.{span, spans, span-ext, spans-fill, fill-alike}
 use Rattle.laws.specs.Lists.{ifℤ, sumℤ, range}
 use Rattle.laws.specs.Sums.{Room}
 use Rattle.limits.specs.Limits.{totalLimit, drawdownLimit}
 use Rattle.step_drawdowns.specs.Drawdowns.{depthOf, depthAt}
-use Rattle.step_flows.specs.Flows.{reducedAt, flowAt, screenAt}
+use Rattle.step_flows.specs.Flows.{reducedAt, flowAt, tableFlowAt, downFlowAt, screenAt}
 use Rattle.step_losses.specs.Losses.{Water, changed, inflowFrom, sweptOf, Sweepable}
-use Rattle.step_losses.proofs.Laws.{span-ext}
 use Rattle.step_losses.specs.declared.Swept.{Swept}
-use Rattle.step_sweep.specs.Worked.{Lent, slotCount, depth, wellDepth, conductance, right, lower, wellFlow, waterOf, toLast, slotAfter, wellAfter, inflowAfter, workedOf, lossesOf, Workable, Unused, Scratch}
+use Rattle.step_sweep.specs.Worked.{Lent, slotCount, depth, wellDepth, conductance, lowerConductance, right, lower, wellFlow, waterOf, toLast, slotAfter, wellAfter, inflowAfter, workedOf, lossesOf, Workable, Unused, Scratch}
 use Rattle.step_sweep.specs.Laws.{reduced-none}
 
 -- ---- zeros filled from the front
@@ -111,6 +110,10 @@ module _ (a : Lent) (ok : Workable a) where
       (λ k u. List·getD-map pos old k 0 ∙ ap pos (none k u))
       (λ k h p. ok .idle k h p .0)
 
+  -- the water to the layer below by them
+  abbrev pub flowDown : List ℕ → ℕ → ℤ
+  flowDown ds = downFlowAt (a .thickness) (a .kv₁) (a .b₂) (a .kv₂) (a .areas) (a .vertical) ds (a .columns - 1) (a .dt)
+
   module _ (ds : List ℕ) (hd : Drawn ds) where
     depth-at : (k : ℕ) → k < slotCount a → pos (getD ds k 0) ≡ depth a k
     unfolding depth
@@ -181,9 +184,14 @@ module _ (a : Lent) (ok : Workable a) where
       unfolding flowAt right
       flow-right whole k = rw (conductance-at whole k, depth-each whole k, depth-each whole (k + 1))
 
-    pub flow-lower : (k : ℕ) → k < 50 * (a .layers - 1) → flowAt (a .vertical) ds 50 (a .dt) k ≡ lower a k
-    unfolding flowAt lower ifℤ
-    flow-lower k h = let below : k + 50 < slotCount a = omega arith in rw (lt-ltb (k + 50) (slotCount a) below, depth-at k (omega arith), depth-at (k + 50) below)
+    pub flow-lower : (k : ℕ) → k < 50 * (a .layers - 1) → flowDown ds k ≡ lower a k
+    unfolding downFlowAt tableFlowAt flowAt lower lowerConductance ifℤ
+    flow-lower k h =
+        let below : k + 50 < slotCount a = omega arith in
+        rw (lt-ltb (k + 50) (slotCount a) below, depth-at k (omega arith), depth-at (k + 50) below) (elim (decLt (k + 1) (a .columns)) [
+          | yes u ↦ rw (lt-ltb k (a .columns - 1) (omega arith), lt-ltb (k + 1) (a .columns) u)
+          | no u ↦ rw (le-ltb k (a .columns - 1) (omega arith), le-ltb (k + 1) (a .columns) (omega arith))
+        ])
 
     pub flow-screen : length (a .losses) ≡ 1000 → (well : ℕ) → pos well ≡ wellDepth a → (i : ℕ) → screenAt (a .screen) well ds (a .dt) i ≡ wellFlow a i
     unfolding screenAt wellFlow
@@ -194,11 +202,11 @@ module _ (a : Lent) (ok : Workable a) where
   Lowered ws = ws ≡ fill (50 * (a .layers - 1)) (lower a) (replicate 1000 (pos 0))
 
   pub lowered : (ds : List ℕ) → Drawn ds → (old ws : List ℤ) → length old ≡ 1000 → ((k : ℕ) → Unused (a .layers - 1) (a .columns) k → getD old k (pos 0) ≡ pos 0)
-      → ws ≡ spans (a .columns - 1) (a .layers - 1) (flowAt (a .vertical) ds 50 (a .dt)) old → Lowered ws
+      → ws ≡ spans (a .columns - 1) (a .layers - 1) (flowDown ds) old → Lowered ws
   lowered ds hd old ws long none e =
-      e ∙ spans-zeros (flowAt (a .vertical) ds 50 (a .dt)) old (a .layers - 1) (a .columns) long (omega (arith, few .0), few .1) none
+      e ∙ spans-zeros (flowDown ds) old (a .layers - 1) (a .columns) long (omega (arith, few .0), few .1) none
       (λ k h p. flow-lower ds hd k h ∙ ok .idle k (omega arith) p .1)
-      ∙ fill-ext (flowAt (a .vertical) ds 50 (a .dt)) (lower a) (replicate 1000 (pos 0)) (50 * (a .layers - 1)) (flow-lower ds hd)
+      ∙ fill-ext (flowDown ds) (lower a) (replicate 1000 (pos 0)) (50 * (a .layers - 1)) (flow-lower ds hd)
 
   module _ (ws : List ℤ) (hw : Lowered ws) where
     pub lowered-at : (k : ℕ) → getD ws k (pos 0) ≡ lower a k

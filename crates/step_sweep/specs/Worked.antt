@@ -15,7 +15,7 @@ use Rattle.laws.specs.Sums.{Room}
 use Rattle.limits.specs.Limits.{rateLimit, lengthLimit, totalLimit, drawdownLimit}
 use Rattle.network.specs.Network.{water}
 use Rattle.step_drawdowns.specs.Drawdowns.{depthOf, depthAt}
-use Rattle.step_flows.specs.Flows.{reducedC}
+use Rattle.step_flows.specs.Flows.{reducedC, loweredC, Tabled}
 use Rattle.step_losses.specs.declared.Swept.{Swept}
 use Rattle.step_losses.specs.Losses.{Water, left, upper, changed}
 use Rattle.step_sweep.specs.declared.Terms.{Terms}
@@ -25,6 +25,10 @@ pub record Lent : Type 0 where
   pub layers : ℕ  -- how many
   pub columns : ℕ  -- m, how many
   pub thickness : ℕ  -- b_1, mm
+  pub kv₁ : ℕ  -- Kv_1, nm/s
+  pub b₂ : ℕ  -- b_2, mm
+  pub kv₂ : ℕ  -- Kv_2, nm/s
+  pub areas : List ℕ  -- A_j, mm², by column
   pub screen : List ℕ  -- C between the well and column 1, by layer
   pub horizontal : List ℕ  -- C between the cell and the next column
   pub vertical : List ℕ  -- C between the cell and the layer below
@@ -37,11 +41,15 @@ pub record Lent : Type 0 where
   pub dt : ℕ
 
 -- from the parameters of `work_step`, in their order
-abbrev pub lent : Terms → ℤ → ℤ → List ℕ → List ℕ → List ℕ → List ℕ → List ℤ → Lent
-lent terms wellLoss inflow screen horizontal vertical storages losses = record {
+abbrev pub lent : Terms → ℤ → ℤ → List ℕ → List ℕ → List ℕ → List ℕ → List ℕ → List ℤ → Lent
+lent terms wellLoss inflow areas screen horizontal vertical storages losses = record {
   layers = terms .layers;
   columns = terms .columns;
   thickness = terms .thickness;
+  kv₁ = terms .kv1;
+  b₂ = terms .b2;
+  kv₂ = terms .kv2;
+  areas = areas;
   screen = screen;
   horizontal = horizontal;
   vertical = vertical;
@@ -74,6 +82,13 @@ conductance a k =
     (reducedC (a .thickness) (getD (a .horizontal) k 0) (depth a k) (depth a (k + 1)))
     (pos (getD (a .horizontal) k 0))
 
+-- C in use of the face between slot k and the layer below: between layers 1 and 2, in the same slots, by the water table
+unfoldable pub lowerConductance : Lent → ℕ → ℤ
+lowerConductance a k =
+    cond (ltb (k + 1) (a .columns))
+    (loweredC (a .thickness) (a .kv₁) (a .b₂) (a .kv₂) (getD (a .areas) (k + 1) 0) (depth a k))
+    (pos (getD (a .vertical) k 0))
+
 -- ---- the water of each face
 
 -- from slot k to the next column
@@ -82,7 +97,7 @@ right a k = water (conductance a k) (depth a k) (depth a (k + 1)) (a .dt)
 
 -- from slot k to the layer below, where there is one
 unfoldable pub lower : Lent → ℕ → ℤ
-lower a k = ifℤ (ltb (k + 50) (slotCount a)) (water (pos (getD (a .vertical) k 0)) (depth a k) (depth a (k + 50)) (a .dt))
+lower a k = ifℤ (ltb (k + 50) (slotCount a)) (water (lowerConductance a k) (depth a k) (depth a (k + 50)) (a .dt))
 
 -- from the well to column 1 of layer i
 unfoldable pub wellFlow : Lent → ℕ → ℤ
@@ -123,9 +138,10 @@ Unused layers columns k = (50 * layers ≤ k) ⊎ (columns ≤ k % 50 + 1)
 
 -- ---- what is asked: every number in its limits, and every sum on the way between 0 and the largest total
 pub record Workable (a : Lent) : Type 0 where
-  pub layers : (1 ≤ a .layers) × (a .layers ≤ 20)
+  pub layers : (2 ≤ a .layers) × (a .layers ≤ 20)
   pub columns : (2 ≤ a .columns) × (a .columns ≤ 50)
   pub thickness : (0 < a .thickness) × (2000 * a .thickness < 2 ^ 64)
+  pub tabled : Tabled (a .thickness) (a .kv₁) (a .b₂) (a .kv₂) (a .areas) (a .columns - 1)
   pub rate : a .rate ≤ rateLimit
   pub dt : a .dt ≤ lengthLimit
   pub storages : (k : ℕ) → k < slotCount a → getD (a .storages) k 0 < 2 ^ 63

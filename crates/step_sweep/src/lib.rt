@@ -1,10 +1,11 @@
 // One step worked on lent arrays by slot, all its faces from the drawdowns at its start; nothing is judged here.
-// C is in 10^-12 m²/s, S in nl per m, V and totals in nl, the thickness in mm, the rate in ml/s, dt in µs.
+// C is in 10^-12 m²/s, S in nl per m, V and totals in nl, thicknesses in mm, areas in mm², Kv in nm/s, the rate in ml/s, dt in µs.
 ghost use mathlib.Core.Path.{_≡_};
 ghost use lib.ListN.{length};
 ghost use Rattle.step_drawdowns.specs.Drawdowns.{Stands, Multiplied};
 ghost use Rattle.step_sweep.specs.Worked.{lent, Workable, Scratch, Worked};
 use limits::CELL_PLACES;
+use limits::COLUMN_PLACES;
 use limits::LAYER_PLACES;
 use step_losses::Swept;
 
@@ -20,6 +21,9 @@ pub struct Terms {
     pub layers: usize,
     pub columns: usize,
     pub thickness: u64, // b_1, mm
+    pub kv1: u64, // Kv_1, nm/s
+    pub b2: u64, // b_2, mm
+    pub kv2: u64, // Kv_2, nm/s
     pub intake: u64, // depth of the intake, mm
     pub well_storage: u64, // S of the well, nl per m
     pub well_multiplier: u64, // the multiplier of that S, 0 for none
@@ -33,6 +37,7 @@ pub fn work_step<'a>(
     terms: Terms,
     well_loss: i64,
     inflow: i64,
+    areas: &'a [u64; COLUMN_PLACES],
     screen: &'a [u64; LAYER_PLACES],
     horizontal: &'a [u64; CELL_PLACES],
     vertical: &'a [u64; CELL_PLACES],
@@ -44,10 +49,10 @@ pub fn work_step<'a>(
     down: &mut [i64; CELL_PLACES],
     before: &mut [i64; CELL_PLACES],
 ) -> Swept
-    requires { ⌜ Workable (lent terms «well_loss» inflow (now screen) (now horizontal) (now vertical) (now storages) (now losses)) ⌝ }
+    requires { ⌜ Workable (lent terms «well_loss» inflow (now areas) (now screen) (now horizontal) (now vertical) (now storages) (now losses)) ⌝ }
     requires { ⌜ Multiplied (now multipliers) (now storages) × Stands (terms .«well_multiplier») (terms .«well_storage») ⌝ }
     requires { ⌜ Scratch (terms .layers) (terms .columns) (now horizontal) (now depths) (now conductances) (now down) (now before) ⌝ }
-    ensures { λ r. ⌜ Worked (lent terms «well_loss» inflow (now (screen .entry)) (now (horizontal .entry)) (now (vertical .entry)) (now (storages .entry)) (now (losses .entry))) r (now (losses .exit)) (now (depths .exit)) (now (conductances .exit)) (now (down .exit)) (now (before .exit)) ⌝ }
+    ensures { λ r. ⌜ Worked (lent terms «well_loss» inflow (now (areas .entry)) (now (screen .entry)) (now (horizontal .entry)) (now (vertical .entry)) (now (storages .entry)) (now (losses .entry))) r (now (losses .exit)) (now (depths .exit)) (now (conductances .exit)) (now (down .exit)) (now (before .exit)) ⌝ }
 {
     whole(losses);
     let layers = terms.layers;
@@ -58,7 +63,19 @@ pub fn work_step<'a>(
     let well = step_drawdowns::drawdown_by(well_loss, terms.well_storage, terms.well_multiplier);
     step_drawdowns::drawdowns(losses, storages, multipliers, layers, stored, depths);
     step_flows::in_use(horizontal, depths, terms.thickness, stored, conductances);
-    step_flows::down_flows(vertical, depths, layers - 1, stored, dt, down);
+    step_flows::down_flows(
+        areas,
+        vertical,
+        depths,
+        terms.thickness,
+        terms.kv1,
+        terms.b2,
+        terms.kv2,
+        layers - 1,
+        stored,
+        dt,
+        down,
+    );
     step_losses::sweep(
         screen,
         conductances,

@@ -12,7 +12,7 @@ use lib.ListN.{getD}
 use lib.Signed.{nonNeg, ltZ, _≤ℤ_}
 use Rattle.laws.specs.All.{all-at, and-left, and-right}
 use Rattle.laws.specs.Integer.{natural, ≤ℤ-pos, ≤ℤ-up, not-past}
-use Rattle.laws.specs.Rows.{both-hold, same-test, four-hold, all-from}
+use Rattle.laws.specs.Rows.{both-hold, same-test, three-hold, four-hold, all-from}
 use Rattle.laws.specs.Sums.{mem-range, range-mem, none, none-at}
 use Rattle.limits.specs.Limits.{conductanceLimit, storageLimit, drawdownLimit}
 use Rattle.network.specs.Network.{isPlace, lossAt, drawdown, lossIn, wellTooDeep, tableTooDeep}
@@ -27,7 +27,9 @@ use Rattle.record.specs.Record.{slot, isCell, gridOf, stateOf}
 use Rattle.coefficient_slots.specs.Slots.{coefficientsHold, coefficientsUnused, usedSlot}
 use Rattle.coefficient_slots.specs.Held.{inside, slotHolds, arrayHolds, screenArrayHolds, slotsHold}
 use Rattle.coefficient_slots.specs.Laws.{coefficients-hold, hold-coefficients, slot-below, slots-coefficients, used-held, held-from, used-slot, by-slot}
+use Rattle.coefficient_cells.specs.Cells.{downOf}
 use Rattle.validity_numbers.specs.Numbers.{siteHolds, siteUnused}
+use Rattle.validity_table.specs.Table.{tableKept}
 use Rattle.validity_totals.specs.Totals.{lossSlotHolds, lossSlotsHold, lossSum, totalsAgree}
 use Rattle.validity_totals.specs.Laws.{Totals, slot-natural, totals-agree}
 use Rattle.validity_drawdowns.specs.Drawdowns.{deeper, Stored, depthSlotHolds, depthSlotsHold}
@@ -213,6 +215,9 @@ module _ (r : Record) where
   abbrev pub storagePasses : Bool
   storagePasses = eqb (r .«well_storage») (wellStorage (r .site .«water_area»))
 
+  abbrev pub tablePasses : Bool
+  tablePasses = tableKept (r .site) (r .vertical)
+
   abbrev pub lossesPass : Bool
   lossesPass = lossSlotsHold (r .site .layers) (r .site .columns) (r .losses)
 
@@ -226,7 +231,7 @@ module _ (r : Record) where
   depthsPass = depthSlotsHold (r .site .layers) (r .site .columns) (1000 * getD (r .site .thickness) 0 0) (r .storages) (r .losses)
 
   unfoldable pub checked : Bool
-  checked = numbersPass && arraysPass && storagePasses && (lossesPass && totalsPass) && (wellPasses && depthsPass)
+  checked = numbersPass && arraysPass && storagePasses && tablePasses && (lossesPass && totalsPass) && (wellPasses && depthsPass)
 
   -- what the tests before them give the later ones
   pub site-passed : numbersPass ≡ true → (countsHold (r .site) ≡ true) × (numbersHold (r .site) ≡ true) × (radiiHold (r .site) ≡ true) × (screenHolds (r .site) ≡ true)
@@ -263,13 +268,31 @@ module _ (r : Record) where
   pub well-natural : totalsPass ≡ true → pos 0 ≤ℤ r .«well_loss»
   well-natural e = at-least-0 _ (totals-agree (r .losses) (r .«well_loss») (r .inflow) (r .pumped) (r .time) e .well)
 
+  -- C between layers 1 and 2, by slot and by column
+  slot-of-column : (k : ℕ) → slot 0 (suc k) ≡ k
+  unfolding slot
+  slot-of-column k = omega arith
+
+  abbrev OfTable : ℕ → Type 0
+  OfTable j = gridOf r .down 0 j ≡ downOf (r .site) 0 j
+
+  table-forth : tablePasses ≡ true → (j : ℕ) → 1 ≤ j → j < r .site .columns → OfTable j
+  unfolding tableKept gridOf
+  table-forth e zero one k = absurd (omega arith)
+  table-forth e (suc n) one k = rw (slot-of-column n) (eqb-true _ _ (all-at _ (r .site .columns - 1) n e (omega arith)))
+
+  table-back : ((j : ℕ) → 1 ≤ j → j < r .site .columns → OfTable j) → tablePasses ≡ true
+  unfolding tableKept gridOf
+  table-back h = all-from _ (r .site .columns - 1) (λ n k. eq-eqb _ _ (rw (slot-of-column n) at (h (suc n) (omega arith) (omega arith))))
+
   forth : checked ≡ true → Valid r
   unfolding checked
   forth e =
-      let all = four-hold (numbersPass && arraysPass) storagePasses (lossesPass && totalsPass) (wellPasses && depthsPass) e in
-      let numbers = and-left numbersPass arraysPass (all .0) in
+      let all = four-hold (numbersPass && arraysPass && storagePasses) tablePasses (lossesPass && totalsPass) (wellPasses && depthsPass) e in
+      let held = three-hold numbersPass arraysPass storagePasses (all .0) in
+      let numbers = held .0 in
       let site = site-passed numbers in
-      let coefficients : (coefficientsHold (gridOf r) && coefficientsUnused r) ≡ true = sym (slots-coefficients r (site .0)) ∙ and-right numbersPass arraysPass (all .0) in
+      let coefficients : (coefficientsHold (gridOf r) && coefficientsUnused r) ≡ true = sym (slots-coefficients r (site .0)) ∙ held .1 in
       let losses = and-left lossesPass totalsPass (all .2) in
       let totals = and-right lossesPass totalsPass (all .2) in
       let well = and-left wellPasses depthsPass (all .3) in
@@ -283,17 +306,19 @@ module _ (r : Record) where
         coefficientsUnused = and-right (coefficientsHold (gridOf r)) (coefficientsUnused r) coefficients;
         lossesUnused = unused r (site .0) (site .1) losses totals well depths;
         coefficients = coefficients-hold (gridOf r) (and-left (coefficientsHold (gridOf r)) (coefficientsUnused r) coefficients);
-        wellStorage = eqb-true _ _ (all .1);
+        wellStorage = eqb-true _ _ (held .2);
+        table = table-forth (all .1);
         kept = kept r (site .0) (site .1) losses totals well depths;
       }
 
   back : Valid r → checked ≡ true
   unfolding checked siteHolds
   back v =
-      both-hold (both-hold (both-hold (both-hold
+      both-hold (both-hold (both-hold (both-hold (both-hold
       (both-hold (both-hold (both-hold (both-hold (v .counts) (v .numbers)) (v .radii)) (v .screen)) (v .siteUnused))
       (slots-coefficients r (v .counts) ∙ both-hold (hold-coefficients (gridOf r) (v .coefficients)) (v .coefficientsUnused)))
       (eq-eqb _ _ (v .wellStorage)))
+      (table-back (v .table)))
       (both-hold (loss-slots r (v .counts) (v .numbers) (v .kept) (v .lossesUnused)) (total-agrees r (v .counts) (v .numbers) (v .kept) (v .lossesUnused))))
       (both-hold (well-passes r (v .counts) (v .numbers) (v .kept) (v .lossesUnused)) (depth-slots r (v .counts) (v .numbers) (v .kept) (v .lossesUnused)))
 

@@ -3,10 +3,11 @@
 --     Valid                      what a record that 14 lets pass is
 --     valid-record               from the test; record-valid: back to it
 --     valid-proper               the network of such a record is one on which steps can be taken
+--     valid-limits, table-fits   its numbers are in their limits, and C between layers 1 and 2 at s = 0 fits a word
 --     zero-refused               14 refuses the all-zero record
 use mathlib.Core.Path.{_≡_, refl, ap}
 use mathlib.Core.Bool.{Bool, true, false, not, _&&_, false≢true}
-use Prim.Native.Nat.{_≤_, zero-le}
+use Prim.Native.Nat.{ℕ, _^_, _≤_, _<_, zero-le}
 use native.Mathlib.Nat.{le-antisymm, le-refl}
 use native.Mathlib.Omega.{arith}
 use borrow.Author.Tests.{leb-true, le-leb, eqb-true, eq-eqb, not-true}
@@ -28,13 +29,16 @@ use Rattle.network.specs.laws.Places.{length-one}
 use Rattle.network.specs.laws.Proper.{proper-grid}
 use Rattle.geometry.specs.Geometry.{wellStorage}
 use Rattle.site.specs.Site.{isScreened, countsHold, numbersHold, radiiHold, screenLayer, screenTop, screenHolds}
-use Rattle.site.specs.Laws.{numbers-hold}
+use Rattle.site.specs.Laws.{counts-hold, numbers-hold}
 use Rattle.record.specs.declared.Record.{Record}
 use Rattle.record.specs.Record.{zeroSite, zeroRecord, gridOf, stateOf}
 use Rattle.coefficient_slots.specs.Slots.{coefficientsHold, coefficientsUnused}
-use Rattle.coefficient_slots.specs.Laws.{Coefficients, coefficients-hold, hold-coefficients}
+use Rattle.coefficient_slots.specs.Laws.{Coefficients, coefficients-hold, hold-coefficients, columns-at, columns-from}
+use Rattle.coefficient_cells.specs.Cells.{downOf}
+use Rattle.coefficient_cells.specs.Laws.{judged-site}
+use Rattle.coefficient_cells.specs.Worked.{InLimits}
 use Rattle.validity_numbers.specs.Numbers.{siteHolds, siteUnused}
-use Rattle.validity.specs.Validity.{lossesUnused, equalℤ, totalsHold, drawdownsHold, valid}
+use Rattle.validity.specs.Validity.{lossesUnused, tableHolds, equalℤ, totalsHold, drawdownsHold, valid}
 
 -- ---- tests of integers
 so : {b : Bool} → b ≡ true → T b
@@ -110,12 +114,25 @@ pub record Valid (r : Record) : Type 0 where
   pub lossesUnused : lossesUnused r ≡ true
   pub coefficients : Coefficients (gridOf r)
   pub wellStorage : r .«well_storage» ≡ wellStorage (r .site .«water_area»)
+  pub table : (j : ℕ) → 1 ≤ j → j < r .site .columns → gridOf r .down 0 j ≡ downOf (r .site) 0 j
   pub kept : Kept (networkOf (gridOf r)) (stateOf r)
 
 module _ (r : Record) where
   losses-listed : length (stateOf r .losses) ≡ networkOf (gridOf r) .places
   unfolding stateOf networkOf
   losses-listed = length-one (gridOf r) _ _
+
+  -- the test of C between layers 1 and 2, column by column
+  abbrev OfTable : Type 0
+  OfTable = (j : ℕ) → 1 ≤ j → j < r .site .columns → gridOf r .down 0 j ≡ downOf (r .site) 0 j
+
+  table-from : tableHolds r ≡ true → OfTable
+  unfolding tableHolds gridOf
+  table-from e j one k = eqb-true _ _ (columns-at (gridOf r) _ j e one k)
+
+  from-table : OfTable → tableHolds r ≡ true
+  unfolding tableHolds gridOf
+  from-table h = columns-from (gridOf r) _ (λ j one k. eq-eqb _ _ (h j one k))
 
   pub valid-record : valid r ≡ true → Valid r
   unfolding valid siteHolds
@@ -124,8 +141,9 @@ module _ (r : Record) where
       let totals = totalsHold (networkOf (gridOf r)) (stateOf r) in
       let depths = drawdownsHold (networkOf (gridOf r)) (stateOf r .losses) in
       let slots = siteHolds (r .site) && siteUnused (r .site) && coefficientsUnused r && lossesUnused r in
-      let last = four-hold (slots && coefficientsHold (gridOf r)) well totals depths e in
-      let zeros = four-hold (siteHolds (r .site)) (siteUnused (r .site)) (coefficientsUnused r) (lossesUnused r) (and-left slots (coefficientsHold (gridOf r)) (last .0)) in
+      let last = four-hold (slots && coefficientsHold (gridOf r) && well) (tableHolds r) totals depths e in
+      let stored = three-hold slots (coefficientsHold (gridOf r)) well (last .0) in
+      let zeros = four-hold (siteHolds (r .site)) (siteUnused (r .site)) (coefficientsUnused r) (lossesUnused r) (stored .0) in
       let site = four-hold (countsHold (r .site)) (numbersHold (r .site)) (radiiHold (r .site)) (screenHolds (r .site)) (zeros .0) in
       record {
         counts = site .0;
@@ -135,28 +153,40 @@ module _ (r : Record) where
         siteUnused = zeros .1;
         coefficientsUnused = zeros .2;
         lossesUnused = zeros .3;
-        coefficients = coefficients-hold (gridOf r) (and-right slots (coefficientsHold (gridOf r)) (last .0));
-        wellStorage = eqb-true _ _ (last .1);
+        coefficients = coefficients-hold (gridOf r) (stored .1);
+        wellStorage = eqb-true _ _ (stored .2);
+        table = table-from (last .1);
         kept = kept-from (networkOf (gridOf r)) (stateOf r) losses-listed (last .2) (last .3);
       }
 
   pub record-valid : Valid r → valid r ≡ true
   unfolding valid siteHolds
   record-valid v =
-      both-hold (both-hold (both-hold (both-hold (both-hold (both-hold (both-hold
+      both-hold (both-hold (both-hold (both-hold (both-hold (both-hold (both-hold (both-hold
       (both-hold (both-hold (both-hold (v .counts) (v .numbers)) (v .radii)) (v .screen))
       (v .siteUnused)) (v .coefficientsUnused)) (v .lossesUnused))
       (hold-coefficients (gridOf r) (v .coefficients)))
       (eq-eqb _ _ (v .wellStorage)))
+      (from-table (v .table)))
       (kept-totals (networkOf (gridOf r)) (stateOf r) (v .kept)))
       (kept-drawdowns (networkOf (gridOf r)) (stateOf r) (v .kept))
 
   pub valid-proper : Valid r → Proper (networkOf (gridOf r))
-  unfolding gridOf screenHolds wellStorage
+  unfolding gridOf screenHolds wellStorage downOf
   valid-proper v =
       let well = numbers-hold (r .site) (v .numbers) .well in
       let unscreened = three-hold (ltb (screenLayer (r .site)) (r .site .layers)) (not (isScreened (r .site .screened) 0)) (ltb (r .site .intake) (screenTop (r .site))) (v .screen) .1 in
       proper-grid (gridOf r) (not-true _ unscreened) (omega (arith, v .wellStorage)) (λ i j h one k. omega (arith, v .coefficients .storage i j h one k .least)) (omega (arith, well .intake-most))
+      (numbers-hold (r .site) (v .numbers) .layer 1 (omega (arith, counts-hold (r .site) (v .counts) .layers-least)) .thickness-least) (v .table)
+
+  pub valid-limits : Valid r → InLimits (r .site)
+  valid-limits v = judged-site (r .site) (v .counts) (v .numbers) (v .radii)
+
+  pub table-fits : Valid r → (j : ℕ) → 1 ≤ j → j < r .site .columns → downOf (r .site) 0 j < 2 ^ 64
+  unfolding gridOf
+  table-fits v j one k =
+      let small = v .coefficients .down 0 j (omega (arith, counts-hold (r .site) (v .counts) .layers-least)) one k in
+      omega (arith, small, v .table j one k)
 
 -- ---- what start gives for a refused text has no layers
 

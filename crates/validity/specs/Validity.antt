@@ -8,11 +8,12 @@ use lib.ListN.{getD}
 use Rattle.laws.specs.Lists.{allBelow, every}
 use Rattle.limits.specs.Limits.{cellPlaces, totalLimit, drawdownLimit}
 use Rattle.network.specs.Network.{Network, State, isPlace, drawdown, lossIn, wellTooDeep, tableTooDeep}
-use Rattle.network.specs.Grid.{networkOf}
+use Rattle.network.specs.Grid.{storedColumns, networkOf}
 use Rattle.geometry.specs.Geometry.{wellStorage}
 use Rattle.record.specs.declared.Record.{Record}
 use Rattle.record.specs.Record.{isCell, gridOf, stateOf}
 use Rattle.coefficient_slots.specs.Slots.{coefficientsHold, coefficientsUnused, usedSlot}
+use Rattle.coefficient_cells.specs.Cells.{downOf}
 use Rattle.validity_numbers.specs.Numbers.{siteHolds, siteUnused}
 
 -- ---- 0 in every slot of a loss that no cell uses
@@ -22,6 +23,10 @@ isZeroℤ (negsuc n) = false
 
 unfoldable pub lossesUnused : Record → Bool
 lossesUnused r = allBelow cellPlaces (λ k. usedSlot (isCell (r .site)) k || isZeroℤ (getD (r .losses) k (pos 0)))
+
+-- ---- the C kept between layers 1 and 2 is what the record's own radii, thickness and conductivities give: the value at s = 0 (N6)
+unfoldable pub tableHolds : Record → Bool
+tableHolds r = every (λ j. eqb (gridOf r .down 0 j) (downOf (r .site) 0 j)) (storedColumns (gridOf r))
 
 -- ---- losses and inflow are not negative and add up to the pumped total, and that is at most 4×10^18, as the time is
 abbrev pub equalℤ : ℤ → ℤ → Bool
@@ -42,5 +47,5 @@ drawdownsHold N vs =
 unfoldable pub valid : Record → Bool
 valid r =
     siteHolds (r .site) && siteUnused (r .site) && coefficientsUnused r && lossesUnused r
-    && coefficientsHold (gridOf r) && eqb (r .«well_storage») (wellStorage (r .site .«water_area»))
+    && coefficientsHold (gridOf r) && eqb (r .«well_storage») (wellStorage (r .site .«water_area»)) && tableHolds r
     && totalsHold (networkOf (gridOf r)) (stateOf r) && drawdownsHold (networkOf (gridOf r)) (stateOf r .losses)

@@ -29,6 +29,9 @@ pub fn valid(record: Record) -> bool
     if record.well_storage != geometry::well_storage(site.water_area) {
         return false;
     }
+    if !validity_table::table_kept(site, &record.vertical) {
+        return false;
+    }
     if !validity_totals::totals_hold(
         layers,
         columns,

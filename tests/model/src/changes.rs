@@ -1,5 +1,6 @@
 //! A step of records in which one number, or the few that go with it, is changed: every condition of 14 broken just barely beside its
-//! nearest allowed neighbour, and 9 by the pumped total and by the time. The changes are chosen for bore K.
+//! nearest allowed neighbour, and 9 by the pumped total and by the time. The changes are chosen for bore K. A change of R_0, R_1, b_2 or
+//! Kv_2 has bore K's C between layers 1 and 2 with it (document 02, N6): 2×A_1×Kv_2/b_2, rounded down.
 
 use crate::checksum::record_checksum;
 use crate::grid::slot;
@@ -46,7 +47,7 @@ fn write_step(name: &str, mut record: Record, out: &mut impl Write) -> io::Resul
     }
 }
 
-const GROUPS: [(&str, &[Change]); 10] = [
+const GROUPS: [(&str, &[Change]); 13] = [
     ("counts", &COUNTS),
     ("layers", &LAYER_NUMBERS),
     ("numbers", &NUMBERS),
@@ -57,6 +58,9 @@ const GROUPS: [(&str, &[Change]); 10] = [
     ("sums", &SUMS),
     ("totals", &TOTALS),
     ("depths", &DEPTHS),
+    ("below", &BELOW),
+    ("alone", &ALONE),
+    ("tables", &TABLES),
 ];
 
 const COUNTS: [Change; 16] = [
@@ -83,16 +87,16 @@ const LAYER_NUMBERS: [Change; 21] = [
     |record| record.thickness[0] = 1_000_000,
     |record| record.thickness[0] = 1_000_001,
     |record| record.thickness[1] = 0,
-    |record| record.thickness[1] = 1,
-    |record| record.thickness[1] = 1_000_000,
-    |record| record.thickness[1] = 1_000_001,
+    |record| (record.thickness[1], record.down_c[slot(1, 1)]) = (1, 15_079_640_000),
+    |record| (record.thickness[1], record.down_c[slot(1, 1)]) = (1_000_000, 15_079),
+    |record| (record.thickness[1], record.down_c[slot(1, 1)]) = (1_000_001, 15_079),
     |record| record.screened[1] = 2,
     |record| record.horizontal[0] = 0,
     |record| record.horizontal[0] = 100_000_000,
     |record| record.horizontal[0] = 100_000_001,
-    |record| record.vertical[1] = 0,
-    |record| record.vertical[1] = 100_000_000,
-    |record| record.vertical[1] = 100_000_001,
+    |record| (record.vertical[1], record.down_c[slot(1, 1)]) = (0, 0),
+    |record| (record.vertical[1], record.down_c[slot(1, 1)]) = (100_000_000, 75_398_200_000),
+    |record| (record.vertical[1], record.down_c[slot(1, 1)]) = (100_000_001, 75_398_200_753),
     |record| record.storage[0] = 0,
     |record| record.storage[0] = 1,
     |record| record.storage[0] = 100_000_000,
@@ -109,6 +113,12 @@ fn set_radii(record: &mut Record, first: u64, second: u64) {
     record.radii[1] = second;
 }
 
+/// R_1 and R_2 with the C between layers 1 and 2 that goes with them.
+fn set_column(record: &mut Record, first: u64, second: u64, below: u64) {
+    set_radii(record, first, second);
+    record.down_c[slot(1, 1)] = below;
+}
+
 /// Limits of the radii and of the well's numbers; rules 4 and 5.
 const NUMBERS: [Change; 27] = [
     |record| record.radii[49] = 2_000_000,
@@ -116,7 +126,8 @@ const NUMBERS: [Change; 27] = [
     |record| record.well_radius = 9,
     |record| record.well_radius = 10,
     |record| record.well_radius = 5000,
-    |record| record.well_radius = 5001,
+    // With the largest grid's C, since no other text has so wide a well.
+    |record| (record.well_radius, record.down_c[slot(1, 1)]) = (5001, 4251),
     |record| record.intake_depth = 0,
     |record| record.intake_depth = 1,
     |record| record.intake_depth = 1_000_000,
@@ -125,10 +136,10 @@ const NUMBERS: [Change; 27] = [
     |record| record.friction = 1_000_000,
     |record| record.friction = 1_000_001,
     // u_1 against u_0 from below and from above, and u_2 against u_1.
-    |record| record.well_radius = 29,
-    |record| record.well_radius = 30,
-    |record| set_radii(record, 1700, 2600),
-    |record| set_radii(record, 1701, 2600),
+    |record| (record.well_radius, record.down_c[slot(1, 1)]) = (29, 7_827_560),
+    |record| (record.well_radius, record.down_c[slot(1, 1)]) = (30, 7_825_700),
+    |record| set_column(record, 1700, 2600, 90_477_860),
+    |record| set_column(record, 1701, 2600, 90_584_710),
     |record| record.radii[1] = 500,
     |record| record.radii[1] = 501,
     |record| record.radii[1] = 4900,
@@ -137,8 +148,8 @@ const NUMBERS: [Change; 27] = [
     |record| record.intake_depth = 10_000,
     |record| record.screened[0] = 1,
     |record| record.screened[1] = 0,
-    |record| set_radii(record, 499, 4900),
-    |record| set_radii(record, 500, 1301),
+    |record| set_column(record, 499, 4900, 7_508_430),
+    |record| set_column(record, 500, 1301, 7_539_820),
 ];
 
 /// Slots of the scenario's numbers that no layer, column or coefficient uses.
@@ -173,7 +184,8 @@ const WELL: [Change; 10] = [
     |record| (record.screen_loss_count, record.screen_losses[1]) = (2, 1_000_000_000_001),
 ];
 
-/// C in its limits, then in slots of layers without screen, of the last column, of no layer, and below the deepest one.
+/// C in its limits, below layer 2 also where there is no layer 3; then in slots of layers without screen, of the last column, of no layer,
+/// and below the deepest one.
 const CONDUCTANCES: [Change; 22] = [
     |record| record.well_c[1] = 0,
     |record| record.well_c[1] = 1_000_000_000_000_000,
@@ -183,10 +195,10 @@ const CONDUCTANCES: [Change; 22] = [
     |record| record.across_c[slot(1, 1)] = 1_000_000_000_000_000,
     |record| record.across_c[slot(1, 1)] = 1_000_000_000_000_001,
     |record| record.across_c[slot(2, 1)] = u64::MAX,
-    |record| record.down_c[slot(1, 1)] = 0,
-    |record| record.down_c[slot(1, 1)] = 1_000_000_000_000_000,
-    |record| record.down_c[slot(1, 1)] = 1_000_000_000_000_001,
-    |record| record.down_c[slot(1, 1)] = u64::MAX,
+    |record| record.down_c[slot(2, 1)] = 0,
+    |record| record.down_c[slot(2, 1)] = 1_000_000_000_000_000,
+    |record| record.down_c[slot(2, 1)] = 1_000_000_000_000_001,
+    |record| record.down_c[slot(2, 1)] = u64::MAX,
     |record| record.well_c[0] = 1,
     |record| record.well_c[2] = 1,
     |record| record.well_c[19] = 1,
@@ -307,4 +319,82 @@ const DEPTHS: [Change; 7] = [
         set_storages(record, 1_000_000, 1);
         set_losses(record, 0, 0, 4_000_000_000_000_000_000, 0, 4_000_000_000_000_000_000);
     },
+];
+
+/// The slot of the C between layers 1 and 2 at its value for bore K and beside it, at document 01's value, at the C in use while layer 1 is
+/// full, and at the limits of C; then that of the largest grid's last stored column, at its value and beside it.
+const BELOW: [Change; 12] = [
+    |record| record.down_c[slot(1, 1)] = 7_539_820,
+    |record| record.down_c[slot(1, 1)] = 7_539_819,
+    |record| record.down_c[slot(1, 1)] = 7_539_821,
+    |record| record.down_c[slot(1, 1)] = 1_256_636,
+    |record| record.down_c[slot(1, 1)] = 685_438,
+    |record| record.down_c[slot(1, 1)] = 0,
+    |record| record.down_c[slot(1, 1)] = 1_000_000_000_000_000,
+    |record| record.down_c[slot(1, 1)] = 1_000_000_000_000_001,
+    |record| record.down_c[slot(1, 1)] = u64::MAX,
+    |record| record.down_c[slot(1, 49)] = 421_452_524,
+    |record| record.down_c[slot(1, 49)] = 421_452_523,
+    |record| record.down_c[slot(1, 49)] = 421_452_525,
+];
+
+/// Numbers that this C is worked from, changed without it: b_2, Kv_2, radii (R_49 is the largest grid's) and Kv_1 to 0. Then numbers that
+/// have no part in it: Kv_1 above 0, within its limit and over it, b_1, and the last radius.
+const ALONE: [Change; 14] = [
+    |record| record.thickness[1] = 1,
+    |record| record.thickness[1] = 1_000_000,
+    |record| record.vertical[1] = 0,
+    |record| record.vertical[1] = 100_000_000,
+    |record| record.well_radius = 30,
+    |record| set_radii(record, 1700, 2600),
+    |record| set_radii(record, 499, 1300),
+    |record| record.radii[48] = 1_774_145,
+    |record| record.vertical[0] = 0,
+    |record| record.vertical[0] = 1,
+    |record| record.vertical[0] = 100_000_000,
+    |record| record.vertical[0] = 100_000_001,
+    |record| record.thickness[0] = 10_001,
+    |record| record.radii[49] = 1_999_999,
+];
+
+/// Kv_1 and Kv_2 with the C between layers 1 and 2 that goes with them.
+fn set_verticals(record: &mut Record, upper: u64, lower: u64, below: u64) {
+    record.vertical[0] = upper;
+    record.vertical[1] = lower;
+    record.down_c[slot(1, 1)] = below;
+}
+
+/// The water table at the bottom of bore K's layer 1.
+fn set_table_at_bottom(record: &mut Record) {
+    set_losses(record, 0, 1_507_964_000_000, 0, 0, 1_507_964_000_000);
+}
+
+/// Bore K's water table at the bottom of layer 1, above a layer 2 that is full and above one that is deeper, 1 µm above the bottom, and
+/// halfway; another Kv_1; then a Kv of 0, with the table at the bottom and as it was.
+const TABLES: [Change; 10] = [
+    set_table_at_bottom,
+    |record| set_losses(record, 0, 1_507_964_000_000, 18_095_568_000, 0, 1_526_059_568_000),
+    |record| set_losses(record, 0, 1_507_963_849_204, 0, 0, 1_507_963_849_204),
+    |record| set_losses(record, 0, 753_982_000_000, 0, 0, 753_982_000_000),
+    |record| {
+        set_table_at_bottom(record);
+        set_verticals(record, 1, 10_000, 7_539_820);
+    },
+    |record| {
+        set_losses(record, 0, 753_982_000_000, 0, 0, 753_982_000_000);
+        set_verticals(record, 1, 10_000, 7_539_820);
+    },
+    |record| {
+        set_table_at_bottom(record);
+        set_verticals(record, 0, 10_000, 0);
+    },
+    |record| {
+        set_table_at_bottom(record);
+        set_verticals(record, 10_000, 0, 0);
+    },
+    |record| {
+        set_table_at_bottom(record);
+        set_verticals(record, 0, 0, 0);
+    },
+    |record| set_verticals(record, 0, 10_000, 0),
 ];

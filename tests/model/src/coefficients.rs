@@ -11,7 +11,7 @@ pub struct Coefficients {
     pub well_faces: Vec<Option<u128>>,
     /// Columns j and j+1, for j from 1 to m−1.
     pub across: Vec<Vec<u128>>,
-    /// Layers i and i+1, columns 1 to m−1.
+    /// Layers i and i+1, columns 1 to m−1; between layers 1 and 2 the C at s = 0.
     pub down: Vec<Vec<u128>>,
     pub well_storage: u128,
     /// Columns 1 to m−1.
@@ -61,8 +61,18 @@ fn across(site: &Site, layer: usize, j: usize) -> u128 {
     geometry::horizontal_conductance(numbers.thickness, numbers.horizontal, inner, outer)
 }
 
-/// C between a layer and the next one below, in column j.
+/// C between layers 1 and 2 in column j while the water table stands s (µm) above the bottom of layer 1 (document 02, N6).
+pub fn top_vertical(site: &Site, j: usize, saturated: u128) -> u128 {
+    let (above, below) = (&site.layers[0], &site.layers[1]);
+    let below = (below.thickness, below.vertical);
+    geometry::top_vertical_conductance(column_area(site, j), above.vertical, below, saturated)
+}
+
+/// C between a layer and the next one below, in column j; below layer 1 it is the largest that the water table leads to, at s = 0.
 fn down(site: &Site, layer: usize, j: usize) -> u128 {
+    if layer == 1 {
+        return top_vertical(site, j, 0);
+    }
     let (above, below) = (&site.layers[layer - 1], &site.layers[layer]);
     geometry::vertical_conductance(
         column_area(site, j),

@@ -1,4 +1,5 @@
-//! Geometry to coefficients: one function a rule of document 01, Λ with the wider range of document 02 (N4); every division rounds down.
+//! Geometry to coefficients: one function a rule of document 01, with document 02's wider range of Λ (N4) and its C between layers 1 and 2
+//! (N6); every division rounds down.
 
 /// π × 2^30, rounded as document 01 prints it.
 const PI: u128 = 3_373_259_426;
@@ -44,7 +45,18 @@ pub fn horizontal_conductance(thickness: u64, conductivity: u64, inner: u64, out
     u128::from(thickness) * u128::from(conductivity) * TWO_PI / lambda(outer, inner)
 }
 
-/// Vertical C (10^-12 m²/s) between the midsections of two layers, each given by b (mm) and Kv (nm/s).
+/// C (10^-12 m²/s) between layers 1 and 2, from the water table, which stands `saturated` (s, µm) above the bottom of layer 1, to the
+/// centre of layer 2, given by b (mm) and Kv (nm/s): document 02, N6; the report's equations 5 and 6 with its second rule for cells in the
+/// top layer.
+pub fn top_vertical_conductance(area: u128, k_above: u64, below: (u64, u64), saturated: u128) -> u128 {
+    let (k_above, b_below, k_below) = (u128::from(k_above), u128::from(below.0), u128::from(below.1));
+    if k_above == 0 || k_below == 0 {
+        return 0;
+    }
+    area * 1000 * k_above * k_below / (saturated * k_below + 500 * b_below * k_above)
+}
+
+/// Vertical C (10^-12 m²/s) between the midsections of two layers below layer 1, each given by b (mm) and Kv (nm/s).
 pub fn vertical_conductance(area: u128, above: (u64, u64), below: (u64, u64)) -> u128 {
     let (b_above, k_above) = (u128::from(above.0), u128::from(above.1));
     let (b_below, k_below) = (u128::from(below.0), u128::from(below.1));

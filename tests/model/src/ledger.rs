@@ -17,15 +17,27 @@ pub struct Stored {
     pub storage: i128,
 }
 
-/// A face: two ends, C (10^-12 m²/s), and the water (nl) that accepted steps have sent from the first to the second.
+/// A face: two ends, C (10^-12 m²/s) as 6 and 8 use it, what a step uses in its place, and the water (nl) that accepted steps have sent
+/// from the first end to the second.
 #[derive(Clone, Debug)]
 pub struct Face {
     pub from: Place,
     pub to: Place,
     pub conductance: i128,
-    /// Horizontal in layer 1.
-    pub water_table: bool,
+    pub in_use: InUse,
     pub crossed: i128,
+}
+
+/// The C that a step uses at a face.
+#[derive(Clone, Copy, Debug)]
+pub enum InUse {
+    /// C itself.
+    Whole,
+    /// Horizontally in layer 1: C by the mean saturated thickness of the two ends.
+    WaterTable,
+    /// Between layers 1 and 2, the first end being the upper one (document 02, N6): by the saturated thickness there, A_j (mm²), Kv_1
+    /// (nm/s), and b_2 (mm) and Kv_2 of layer 2.
+    TopVertical { area: u128, k_above: u64, below: (u64, u64) },
 }
 
 /// V of each place, totals and time; C, S and the other numbers are the scenario's.
@@ -69,11 +81,14 @@ impl Ledger {
     /// Water across a face from its first end to its second, nl, for a step of a length (µs).
     pub fn flow(&self, face: &Face, length: u64) -> i128 {
         let (from, to) = (self.drawdown(face.from), self.drawdown(face.to));
-        let conductance = if face.water_table {
-            let full = 1000 * self.top_thickness;
-            face.conductance * (full - from + full - to) / (2000 * self.top_thickness)
-        } else {
-            face.conductance
+        let full = 1000 * self.top_thickness;
+        let conductance = match face.in_use {
+            InUse::Whole => face.conductance,
+            InUse::WaterTable => face.conductance * (full - from + full - to) / (2 * full),
+            InUse::TopVertical { area, k_above, below } => {
+                let saturated = (full - from) as u128;
+                geometry::top_vertical_conductance(area, k_above, below, saturated) as i128
+            }
         };
         // A quotient of signed numbers is rounded toward zero.
         conductance * (to - from) * i128::from(length) / 1_000_000_000_000
@@ -112,7 +127,7 @@ impl Ledger {
         self.places.iter().all(|(place, stored)| i128::from(length) * sums[place] <= 1_000_000 * stored.storage)
     }
 
-    /// Sum of the unreduced C of each end's faces.
+    /// Sum of the C of each end's faces.
     pub fn conductance_sums(&self) -> BTreeMap<Place, i128> {
         let mut sums: BTreeMap<Place, i128> = self.places.keys().map(|&place| (place, 0)).collect();
         for face in &self.faces {
@@ -203,8 +218,8 @@ fn places(site: &Site) -> BTreeMap<Place, Stored> {
 /// Every face: horizontal ones column by column from the well, then vertical ones.
 fn faces(site: &Site) -> Vec<Face> {
     let mut faces = Vec::new();
-    let mut add = |from, to, conductance: u128, water_table| {
-        faces.push(Face { from, to, conductance: conductance as i128, water_table, crossed: 0 })
+    let mut add = |from, to, conductance: u128, in_use| {
+        faces.push(Face { from, to, conductance: conductance as i128, in_use, crossed: 0 })
     };
     for column in 0..site.columns() {
         let (inner, outer) = (site.doubled_midsection(column), site.doubled_midsection(column + 1));
@@ -212,7 +227,7 @@ fn faces(site: &Site) -> Vec<Face> {
             if column > 0 || layer.screened == 1 {
                 let from = if column == 0 { Place::Well } else { cell(above + 1, column) };
                 let c = geometry::horizontal_conductance(layer.thickness, layer.horizontal, inner, outer);
-                add(from, cell(above + 1, column + 1), c, above == 0);
+                add(from, cell(above + 1, column + 1), c, if above == 0 { InUse::WaterTable } else { InUse::Whole });
             }
         }
     }
@@ -220,12 +235,14 @@ fn faces(site: &Site) -> Vec<Face> {
         let area = geometry::area(site.radius(column - 1), site.radius(column));
         for (above, pair) in site.layers.windows(2).enumerate() {
             let side = |layer: usize| (pair[layer].thickness, pair[layer].vertical);
-            add(
-                cell(above + 1, column),
-                cell(above + 2, column),
-                geometry::vertical_conductance(area, side(0), side(1)),
-                false,
-            );
+            let (c, in_use) = if above == 0 {
+                let (k_above, below) = (pair[0].vertical, side(1));
+                let at_bottom = geometry::top_vertical_conductance(area, k_above, below, 0);
+                (at_bottom, InUse::TopVertical { area, k_above, below })
+            } else {
+                (geometry::vertical_conductance(area, side(0), side(1)), InUse::Whole)
+            };
+            add(cell(above + 1, column), cell(above + 2, column), c, in_use);
         }
     }
     faces

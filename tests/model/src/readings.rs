@@ -95,13 +95,15 @@ pub fn same(one: &Record, other: &Record) -> Result<bool, Refusal> {
             .all(|(layer, column)| one.cell_drawdown(layer, column) == other.cell_drawdown(layer, column)))
 }
 
-/// A face of a record.
+/// A face of a record, by what its C in use is worked from.
 #[derive(Clone, Copy)]
-pub struct Face {
-    /// C, unreduced.
-    conductance: u64,
-    /// Horizontal in layer 1.
-    water_table: bool,
+pub enum Face {
+    /// C as the record keeps it.
+    Kept(u64),
+    /// Horizontal in layer 1: that C and the saturated thickness at both ends.
+    WaterTable(u64),
+    /// Between layers 1 and 2 of a column: the saturated thickness above it.
+    TopVertical(usize),
 }
 
 /// Whether there is such a cell, the last column's among them.
@@ -119,11 +121,14 @@ pub fn face(record: &Record, one: Place, other: Place) -> Option<Face> {
             if !in_grid(record, layer, column) || !in_grid(record, layer2, column2) {
                 return None;
             }
-            let (upper, inner) = (layer.min(layer2), column.min(column2));
-            let at = slot(upper as usize, inner as usize);
+            let (upper, inner) = (layer.min(layer2) as usize, column.min(column2) as usize);
+            let at = slot(upper, inner);
             match (layer.abs_diff(layer2), column.abs_diff(column2)) {
-                (0, 1) => Some(Face { conductance: record.across_c[at], water_table: layer == 1 }),
-                (1, 0) if column < record.columns => Some(Face { conductance: record.down_c[at], water_table: false }),
+                (0, 1) if upper == 1 => Some(Face::WaterTable(record.across_c[at])),
+                (0, 1) => Some(Face::Kept(record.across_c[at])),
+                (1, 0) if column == record.columns => None,
+                (1, 0) if upper == 1 => Some(Face::TopVertical(inner)),
+                (1, 0) => Some(Face::Kept(record.down_c[at])),
                 _ => None,
             }
         }
@@ -134,16 +139,19 @@ pub fn face(record: &Record, one: Place, other: Place) -> Option<Face> {
 /// The well's face in a screened layer, which leads to column 1.
 fn well_face(record: &Record, layer: u64, column: u64) -> Option<Face> {
     let screened = in_grid(record, layer, column) && record.screened[layer as usize - 1] == 1;
-    (screened && column == 1).then(|| Face { conductance: record.well_c[layer as usize - 1], water_table: false })
+    (screened && column == 1).then(|| Face::Kept(record.well_c[layer as usize - 1]))
 }
 
 /// Water across a face, nl, when 14, 7 and 8 forbid nothing.
 pub fn face_flow(record: &Record, face: Face, from: Place, to: Place, length: u64) -> i64 {
     let (d_from, d_to) = (end_drawdown(record, from), end_drawdown(record, to));
-    let conductance = if face.water_table {
-        step::water_table_conductance(face.conductance, record.thickness[0], d_from, d_to)
-    } else {
-        i128::from(face.conductance)
+    let conductance = match face {
+        Face::Kept(c) => i128::from(c),
+        Face::WaterTable(c) => step::water_table_conductance(c, record.thickness[0], d_from, d_to),
+        // Whichever end is named first, s is that of the cell in layer 1.
+        Face::TopVertical(column) => {
+            step::top_vertical_in_use(&record.site(), column, record.cell_drawdown(1, column).into())
+        }
     };
     let flow = step::face_flow(conductance, d_from, d_to, length);
     i64::try_from(flow).expect("the water of an allowed step fits a word")

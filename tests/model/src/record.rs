@@ -1,5 +1,6 @@
 //! The record: what it keeps, the start from a text, and refusal 14.
 
+use crate::coefficients;
 use crate::grid::slot;
 use crate::limits::{self, CELLS, COLUMNS, LAYERS, SCREEN_LOSSES};
 use crate::refusal::Refusal;
@@ -38,7 +39,7 @@ pub struct Record {
     pub well_c: [u64; LAYERS],
     /// C of a cell and the next outward, columns 1 to m−1.
     pub across_c: [u64; CELLS],
-    /// C of a cell and the one below it, columns 1 to m−1, all layers but the deepest.
+    /// C of a cell and the one below it, columns 1 to m−1, all layers but the deepest; between layers 1 and 2 the C at s = 0.
     pub down_c: [u64; CELLS],
     /// S of the well, nl per m.
     pub well_s: u64,
@@ -239,7 +240,8 @@ impl Record {
         }
     }
 
-    /// C and S within their limits, and 0 in every slot of a face or place that there is not.
+    /// C and S within their limits, 0 in every slot of a face or place that there is not, and between layers 1 and 2 the C at s = 0 that
+    /// the record's own numbers give (document 02, N6).
     fn coefficient_fault(&self) -> Option<&'static str> {
         // The screened slots past the layers are 0 by now.
         if (0..LAYERS).any(|row| !conductance_fits(self.screened[row] == 1, self.well_c[row])) {
@@ -263,6 +265,11 @@ impl Record {
             if !stored && self.cell_loss[at] != 0 {
                 return Some("unused loss slot");
             }
+        }
+        let site = self.site();
+        let kept = |column: usize| u128::from(self.down_c[slot(1, column)]);
+        if (1..self.columns as usize).any(|column| kept(column) != coefficients::top_vertical(&site, column, 0)) {
+            return Some("C below layer 1");
         }
         None
     }

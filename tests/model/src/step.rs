@@ -1,11 +1,13 @@
 //! A step on a record: refusals 14, then 7 to 11, and the water across every face from the drawdowns at its start.
 
+use crate::coefficients;
 use crate::geometry;
 use crate::grid::slot;
 use crate::limits::{self, CELLS};
 use crate::mistake::Mistake;
 use crate::record::Record;
 use crate::refusal::Refusal;
+use crate::site::Site;
 
 /// What C (10^-12 m²/s) × D (µm) × Δt (µs) is divided by to give nl.
 const FLOW_DIVISOR: i128 = 1_000_000_000_000;
@@ -66,7 +68,7 @@ pub fn judge_stability(record: &Record, length: u64, mistake: Option<Mistake>) -
     Ok(())
 }
 
-/// Sum of the unreduced C of a stored cell's faces: inward, outward, above, below.
+/// Sum of the C of a stored cell's faces as the record keeps them: inward, outward, above, below.
 fn conductance_sum(record: &Record, layer: usize, column: usize, vertical: bool) -> u128 {
     let at = slot(layer, column);
     let inward = if column == 1 { record.well_c[layer - 1] } else { record.across_c[slot(layer, column - 1)] };
@@ -83,6 +85,13 @@ fn conductance_sum(record: &Record, layer: usize, column: usize, vertical: bool)
 pub fn water_table_conductance(conductance: u64, thickness: u64, from: i128, to: i128) -> i128 {
     let full = 1000 * i128::from(thickness);
     (i128::from(conductance) * ((full - from) + (full - to))).div_euclid(2 * full)
+}
+
+/// C in use between layers 1 and 2 in a column whose cell of layer 1 has a drawdown (µm): that at s = 1000×b_1 − D. Past the bottom of
+/// layer 1, where only a mistake leads, it is 0.
+pub fn top_vertical_in_use(site: &Site, column: usize, top_drawdown: i128) -> i128 {
+    let saturated = 1000 * i128::from(site.layers[0].thickness) - top_drawdown;
+    u128::try_from(saturated).map_or(0, |saturated| coefficients::top_vertical(site, column, saturated) as i128)
 }
 
 /// Water from one end of a face to the other, nl: size C × |difference of D| × Δt / 10^12 rounded down,
@@ -109,6 +118,7 @@ fn drawdown(loss: i128, storage: i128) -> i128 {
 /// A step in work. Losses of the last column's slots stand for the water that came from there.
 struct Sweep<'a> {
     record: &'a Record,
+    site: Site,
     length: u64,
     mistake: Option<Mistake>,
     /// D at the start of the step, µm.
@@ -119,7 +129,8 @@ struct Sweep<'a> {
 
 impl Sweep<'_> {
     fn new(record: &Record, length: u64, mistake: Option<Mistake>) -> Sweep<'_> {
-        let mut sweep = Sweep { record, length, mistake, drawdown: [0; CELLS + 1], loss: [0; CELLS + 1] };
+        let site = record.site();
+        let mut sweep = Sweep { record, site, length, mistake, drawdown: [0; CELLS + 1], loss: [0; CELLS + 1] };
         sweep.loss[WELL] = i128::from(record.well_loss);
         sweep.drawdown[WELL] = drawdown(sweep.loss[WELL], i128::from(record.well_s));
         for (layer, column) in record.stored_cells() {
@@ -144,9 +155,9 @@ impl Sweep<'_> {
 
     /// The S that a cell of the last column would have if it stored water.
     fn last_column_storage(&self, layer: usize) -> i128 {
-        let site = self.record.site();
-        let area = geometry::area(site.radius(site.columns() - 1), site.radius(site.columns()));
-        let numbers = &site.layers[layer - 1];
+        let columns = self.site.columns();
+        let area = geometry::area(self.site.radius(columns - 1), self.site.radius(columns));
+        let numbers = &self.site.layers[layer - 1];
         let storage = if layer == 1 {
             geometry::water_table_storage(area, numbers.storage)
         } else {
@@ -160,26 +171,42 @@ impl Sweep<'_> {
         let (layers, columns) = (self.record.layers as usize, self.record.columns as usize);
         for layer in 1..=layers {
             if self.record.screened[layer - 1] == 1 {
-                self.face(WELL, slot(layer, 1), self.record.well_c[layer - 1], false);
+                self.face(WELL, slot(layer, 1), i128::from(self.record.well_c[layer - 1]));
             }
             for column in 1..columns {
                 let at = slot(layer, column);
-                self.face(at, slot(layer, column + 1), self.record.across_c[at], layer == 1);
+                self.face(at, slot(layer, column + 1), self.across(layer, column));
                 if layer < layers {
-                    self.face(at, slot(layer + 1, column), self.record.down_c[at], false);
+                    self.face(at, slot(layer + 1, column), self.down(layer, column));
                 }
             }
         }
     }
 
-    /// Water across one face: one number, added at one end and subtracted at the other.
-    fn face(&mut self, from: usize, to: usize, conductance: u64, water_table: bool) {
-        let (d_from, d_to) = (self.drawdown_at(from), self.drawdown_at(to));
-        let c = if water_table {
-            water_table_conductance(conductance, self.record.thickness[0], d_from, d_to)
+    /// C in use between columns j and j+1 of a layer.
+    fn across(&self, layer: usize, column: usize) -> i128 {
+        let (from, to) = (slot(layer, column), slot(layer, column + 1));
+        let c = self.record.across_c[from];
+        if layer == 1 {
+            water_table_conductance(c, self.record.thickness[0], self.drawdown_at(from), self.drawdown_at(to))
         } else {
-            i128::from(conductance)
-        };
+            i128::from(c)
+        }
+    }
+
+    /// C in use between a layer and the next one below, in a column.
+    fn down(&self, layer: usize, column: usize) -> i128 {
+        let at = slot(layer, column);
+        if layer == 1 && self.mistake != Some(Mistake::TableAtBottom) {
+            top_vertical_in_use(&self.site, column, self.drawdown_at(at))
+        } else {
+            i128::from(self.record.down_c[at])
+        }
+    }
+
+    /// Water across one face by its C in use: one number, added at one end and subtracted at the other.
+    fn face(&mut self, from: usize, to: usize, c: i128) {
+        let (d_from, d_to) = (self.drawdown_at(from), self.drawdown_at(to));
         let (out, into) = match self.mistake {
             Some(Mistake::RoundedDown) => {
                 let flow = face_flow_rounded_down(c, d_from, d_to, self.length);

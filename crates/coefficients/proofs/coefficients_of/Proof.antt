@@ -4,39 +4,46 @@ use native.Mathlib.Omega.{arith}
 use borrow.Author.Tests.{not-true, not-false}
 use Rattle.site.specs.Laws.{counts-hold, numbers-hold}
 use Rattle.coefficient_cells.specs.Worked.{InLimits}
+use Rattle.coefficient_cells.specs.Laws.{judged-site, areas-of}
 use Rattle.coefficient_slots.specs.Slots.{coefficientsHold}
 use Rattle.coefficients.specs.Coefficients.{scenarioGrid}
 use Rattle.coefficients.proofs.Held.{judged, taken, refused}
-use Rattle.coefficients.proofs.Laws.{judged-site}
 use Rattle.coefficients.proofs.coefficients_of.Statement.{statement}
 use Rattle.coefficients.proofs.coefficients_of.Tie as tie
 
-columns-of-requires : tie.Need-columns-of-requires
-columns-of-requires c κs =
+logarithms-of-requires : tie.Need-logarithms-of-requires
+logarithms-of-requires c κs =
     judged-site _ (c .pre .0) (c .pre .1) (c .pre .2)
 
 -- ---- Λ and areas are worked
 
-within : (c : tie.After-columns-of) → InLimits (c .before .args .t1)
-within c = let start = c .before in judged-site _ (start .pre .0) (start .pre .1) (start .pre .2)
+within : (c : tie.Start) → InLimits (c .args .t1)
+within start = judged-site _ (start .pre .0) (start .pre .1) (start .pre .2)
+
+areas-of-requires : tie.Need-areas-of-requires
+areas-of-requires c κs = within (c .before)
+
+abbrev begun : tie.After-areas-of → tie.Start
+begun c = c .before .before
 
 screen-of-requires : tie.Need-screen-of-requires
 screen-of-requires c κs =
-    let columns = c .before .before in
-    (within columns, columns .columns-of .ensures .0)
+    let columns = c .before in
+    (within (begun columns), columns .before .logarithms-of .ensures)
 
-abbrev columns-from : tie.After-screen-of → tie.After-columns-of
-columns-from c = c .before .before .before
+abbrev columns-from : tie.After-screen-of → tie.After-areas-of
+columns-from c = c .before .before
 
 cells-of-requires : tie.Need-cells-of-requires
 cells-of-requires c κs =
-    let columns = columns-from (c .before .before .before) in
-    (within columns, columns .columns-of .ensures .0, columns .columns-of .ensures .1)
+    let columns = columns-from (c .before .before) in
+    let site = within (begun columns) in
+    (site, columns .before .logarithms-of .ensures, rw (columns .areas-of .ensures) (areas-of _ site))
 
 -- ---- so are C and S, each in its slot
 
 abbrev screen-from : tie.After-cells-of → tie.After-screen-of
-screen-from c = c .before .before .before .before
+screen-from c = c .before .before .before
 
 abbrev cells-from : tie.After-storages → tie.After-cells-of
 cells-from c = c .before .before .before
@@ -45,7 +52,7 @@ abbrev slots-from : tie.After-coefficients-hold → tie.After-storages
 slots-from c = c .before .before .before .before .before .before .before
 
 abbrev start-from : tie.After-storages → tie.Start
-start-from c = columns-from (screen-from (cells-from c)) .before
+start-from c = begun (columns-from (screen-from (cells-from c)))
 
 coefficients-hold-requires : tie.Need-coefficients-hold-requires
 coefficients-hold-requires c κs =
@@ -82,7 +89,8 @@ pub coefficients-of-spec : {M : Type 1} → statement M
 coefficients-of-spec =
     tie.close
     (tie.spec
-    columns-of-requires
+    logarithms-of-requires
+    areas-of-requires
     screen-of-requires
     cells-of-requires
     coefficients-hold-requires

@@ -2,7 +2,8 @@
 use mathlib.Core.Path.{_≡_, _∙_}
 use Prim.Native.Nat.{_*_, _-_, _/_, _^_, _≤_}
 use native.Mathlib.Omega.{arith}
-use Rattle.geometry.proofs.Laws.{product-fits, square-at-most, area-is, area-small}
+use Rattle.geometry.specs.Laws.{area-is, area-most}
+use Rattle.geometry.proofs.Laws.{product-fits, square-at-most}
 use Rattle.geometry.proofs.area.Statement.{statement}
 use Rattle.geometry.proofs.area.Tie as tie
 
@@ -17,15 +18,16 @@ sub-quotient-word c = omega (arith, square-at-most (c .args .outer) {a = c .args
 
 quotient-word-requires : tie.Need-quotient-word-requires
 quotient-word-requires c κs =
-    let h : c .args .outer * c .args .outer ≤ 2000000 * 2000000 = square-at-most 2000000 (omega arith) in
-    (omega arith, omega (arith, area-small (c .args .outer * c .args .outer - c .args .inner * c .args .inner) (omega arith)))
+    let a = c .args in
+    let small : 3373259426 * (a .outer * a .outer - a .inner * a .inner) / 2 ^ 30 ≤ 2 ^ 44 = rw (area-is (a .outer) (a .inner)) (area-most (a .outer) (a .inner) (omega arith)) in
+    (omega arith, omega arith)
 
 returns : tie.Need-returns
 returns c =
     let a = c .before .args in
-    let h : a .outer * a .outer ≤ 2000000 * 2000000 = square-at-most 2000000 (omega arith) in
     let q : c .quotient-word .result ≡ 3373259426 * (a .outer * a .outer - a .inner * a .inner) / 2 ^ 30 = c .quotient-word .ensures in
-    (q ∙ area-is (a .outer) (a .inner), omega (arith, area-small (a .outer * a .outer - a .inner * a .inner) (omega arith)))
+    let e = q ∙ area-is (a .outer) (a .inner) in
+    (e, rw e (area-most (a .outer) (a .inner) (omega arith)))
 
 pub area-spec : {M : Type 1} → statement M
 area-spec =

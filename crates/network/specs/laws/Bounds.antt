@@ -85,9 +85,10 @@ module _ (N : Network) (proper : Proper N) (s : State) (kept : Kept N s) where
 
     module _ (f : Face) (m : List·Memᴰ f (N .faces)) where
       used : UpTo (f .conductance) (inUse N f (drawdown N (s .losses) (f .one)) (drawdown N (s .losses) (f .two)))
-      used = in-use N f (drawdown N (s .losses) (f .one)) (drawdown N (s .losses) (f .two)) λ e.
-          let o = proper .unconfined f m e in
-          (in-layer (f .one) (o .0), in-layer (f .two) (o .1))
+      unfolding inUse
+      used = in-use (N .thickness) (f .conductance) (f .rule) (drawdown N (s .losses) (f .one)) (drawdown N (s .losses) (f .two))
+          (λ e. let o = proper .unconfined f m e in (in-layer (f .one) (o .0), in-layer (f .two) (o .1)))
+          (λ x kv₁ b₂ kv₂ e. let o = proper .table f m x kv₁ b₂ kv₂ e in (in-layer (f .one) (o .0), o .1, o .2))
 
       abbrev c : ℕ
       c = natAbs (inUse N f (drawdown N (s .losses) (f .one)) (drawdown N (s .losses) (f .two)))

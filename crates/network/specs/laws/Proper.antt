@@ -1,18 +1,17 @@
 -- The faces of a grid, one by one; a grid's network is proper.
-use mathlib.Core.Path.{_≡_, refl, sym, ap, subst, _∙_}
-use mathlib.Core.Bool.{Bool, true, false, cond, true≢false, false≢true}
+use mathlib.Core.Path.{_≡_, refl, sym, subst, _∙_}
+use mathlib.Core.Bool.{Bool, true, false, cond, true≢false}
 use mathlib.Core.Logic.{_⊎_, inl, inr, ⊎-elim}
 use mathlib.Core.List.{List, [], _∷_, _++_, map, flatMap, List·Memᴰ, List·Memᴰ·head, List·Memᴰ·append-cases, List·Memᴰ·eq-of-singleton, List·Memᴰ·not-nil, Memᴰ·append-left, Memᴰ·append-right, Memᴰ·map, Memᴰ·of-map}
 use Prim.Native.Nat.{ℕ, zero, suc, _+_, _*_, _-_, _≤_, _<_, zero-le}
 use native.Mathlib.Decide.{decLt}
 use native.Mathlib.Nat.{le-refl}
 use native.Mathlib.Omega.{arith}
-use lib.Dec.{eqb}
-use borrow.Author.Tests.{eqb-true}
-use Rattle.laws.specs.Sums.{mem-range, range-mem, mem-flatMap, flatMap-mem}
+use Rattle.laws.specs.Sums.{mem-range, range-mem, range-below, mem-flatMap, flatMap-mem}
 use Rattle.limits.specs.Limits.{drawdownLimit}
-use Rattle.network.specs.Network.{Face, storageAt}
-use Rattle.network.specs.Grid.{Grid, storedColumns, layersOf, upperLayers, placeCount, place, onePerPlace, acrossFace, downFace, screenFaces, facesOf, networkOf}
+use Rattle.geometry.specs.Geometry.{fromTable}
+use Rattle.network.specs.Network.{Rule, Face, storageAt}
+use Rattle.network.specs.Grid.{Grid, storedColumns, layersOf, upperLayers, placeCount, place, onePerPlace, acrossRule, downRule, acrossFace, downFace, screenFaces, facesOf, networkOf}
 use Rattle.network.specs.Kept.{OnTable, Proper}
 use Rattle.network.specs.laws.Cells.{joined}
 use Rattle.network.specs.laws.Places.{place-last, by-place, getD-one}
@@ -40,8 +39,8 @@ module _ (G : Grid) where
       Memᴰ·append-right (flatMap layerFaces (layersOf G))
       (mem-flatMap lowerFaces (mem-range (G .layers - 1) zero-le (omega arith)) (Memᴰ·map (downFace G i) (mem-range (G .columns - 1) u (omega arith))))
 
-  -- where layer 1 is not screened, its faces alone are unconfined
-  on-table : (j : ℕ) → 0 < j → OnTable (networkOf G) (place G 0 j)
+  -- columns of layer 1 and the last column
+  pub on-table : (j : ℕ) → 0 < j → OnTable (networkOf G) (place G 0 j)
   unfolding networkOf storedColumns
   on-table zero h = absurd (omega arith)
   on-table (suc r) h = elim (decLt (suc r) (G .columns)) [
@@ -49,37 +48,84 @@ module _ (G : Grid) where
     | no k ↦ inr (rw (place-last G 0 r (omega arith)) (le-refl (placeCount G)))
   ]
 
-  unconfined-faces : G .screened 0 ≡ false → (f : Face) → List·Memᴰ f (facesOf G) → f .unconfined ≡ true → OnTable (networkOf G) (f .one) × OnTable (networkOf G) (f .two)
-  unfolding facesOf screenFaces acrossFace downFace storedColumns
-  unconfined-faces dry f m e = ⊎-elim across down (List·Memᴰ·append-cases (flatMap layerFaces (layersOf G)) m)
+  -- what is asked of a face, asked of each kind that the grid has
+  every-face : (P : Face → Type 0) → ((i : ℕ) → i < G .layers → G .screened i ≡ true → P (acrossFace G i 0)) → ((i j : ℕ) → i < G .layers → 0 < j → j < G .columns → P (acrossFace G i j))
+      → ((i j : ℕ) → suc i < G .layers → 0 < j → j < G .columns → P (downFace G i j)) → (f : Face) → List·Memᴰ f (facesOf G) → P f
+  unfolding facesOf screenFaces storedColumns layersOf upperLayers
+  every-face P at-well within lower f m = ⊎-elim across down (List·Memᴰ·append-cases (flatMap layerFaces (layersOf G)) m)
     where
-      Both : Face → Type 0
-      Both f = OnTable (networkOf G) (f .one) × OnTable (networkOf G) (f .two)
+      screen : (i : ℕ) → i < G .layers → (b : Bool) → G .screened i ≡ b → List·Memᴰ f (cond b (acrossFace G i 0 ∷ []) []) → P f
+      screen i h true s k = subst P (sym (List·Memᴰ·eq-of-singleton k)) (at-well i h s)
+      screen i h false s k = absurd (List·Memᴰ·not-nil k)
 
-      top : (i j : ℕ) → 0 < j → eqb i 0 ≡ true → Both (acrossFace G i j)
-      top i j h q = rw (eqb-true i 0 q) (on-table j h, on-table (suc j) (omega arith))
+      row : (i : ℕ) → i < G .layers → List·Memᴰ f (map (acrossFace G i) (storedColumns G)) → P f
+      row i h k = let r = Memᴰ·of-map (acrossFace G i) (storedColumns G) k in
+          let b = range-mem 1 (G .columns - 1) (r .1) in
+          subst P (r .2) (within i (r .0) h (omega arith) (omega arith))
 
-      screen : (i : ℕ) (b : Bool) → G .screened i ≡ b → List·Memᴰ f (cond b (acrossFace G i 0 ∷ []) []) → Both f
-      screen i true s k = absurd (true≢false (sym s ∙ ap (G .screened) (eqb-true i 0 (sym (ap (λ g. g .unconfined) (List·Memᴰ·eq-of-singleton k)) ∙ e)) ∙ dry))
-      screen i false s k = absurd (List·Memᴰ·not-nil k)
-
-      row : (i : ℕ) → List·Memᴰ f (map (acrossFace G i) (storedColumns G)) → Both f
-      row i k = let r = Memᴰ·of-map (acrossFace G i) (storedColumns G) k in
-          subst Both (r .2) (top i (r .0) (range-mem 1 (G .columns - 1) (r .1) .0) (ap (λ g. g .unconfined) (r .2) ∙ e))
-
-      across : List·Memᴰ f (flatMap layerFaces (layersOf G)) → Both f
+      across : List·Memᴰ f (flatMap layerFaces (layersOf G)) → P f
       across k = let r = flatMap-mem layerFaces (layersOf G) k in
-          ⊎-elim (screen (r .0) (G .screened (r .0)) refl) (row (r .0)) (List·Memᴰ·append-cases (screenFaces G (r .0)) (r .2))
+          let h = range-below (G .layers) (r .1) in
+          ⊎-elim (screen (r .0) h (G .screened (r .0)) refl) (row (r .0) h) (List·Memᴰ·append-cases (screenFaces G (r .0)) (r .2))
 
-      down : List·Memᴰ f (flatMap lowerFaces (upperLayers G)) → Both f
+      down : List·Memᴰ f (flatMap lowerFaces (upperLayers G)) → P f
       down k = let r = flatMap-mem lowerFaces (upperLayers G) k in
-          absurd (false≢true (ap (λ g. g .unconfined) (Memᴰ·of-map (downFace G (r .0)) (storedColumns G) (r .2) .2) ∙ e))
+          let c = Memᴰ·of-map (downFace G (r .0)) (storedColumns G) (r .2) in
+          let h = range-below (G .layers - 1) (r .1) in
+          let b = range-mem 1 (G .columns - 1) (c .1) in
+          subst P (c .2) (lower (r .0) (c .0) (omega arith) (omega arith) (omega arith))
 
-  pub proper-grid : G .screened 0 ≡ false → 0 < G .wellStorage → ((i j : ℕ) → i < G .layers → 0 < j → j < G .columns → 0 < G .storage i j) → 1000 * G .intake ≤ drawdownLimit → Proper (networkOf G)
+  abbrev OfUnconfined : Face → Type 0
+  OfUnconfined f = f .rule ≡ Rule.unconfined → OnTable (networkOf G) (f .one) × OnTable (networkOf G) (f .two)
+
+  abbrev OfTable : Face → Type 0
+  OfTable f = (a kv₁ b₂ kv₂ : ℕ) → f .rule ≡ Rule.table a kv₁ b₂ kv₂ → OnTable (networkOf G) (f .one) × (0 < b₂) × (f .conductance ≡ fromTable a kv₁ b₂ kv₂ 0)
+
+  -- where layer 1 is not screened, its faces alone are unconfined
+  unconfined-faces : G .screened 0 ≡ false → (f : Face) → List·Memᴰ f (facesOf G) → OfUnconfined f
+  unfolding acrossFace downFace acrossRule downRule
+  unconfined-faces dry = every-face OfUnconfined well within down
+    where
+      well : (i : ℕ) → i < G .layers → G .screened i ≡ true → OfUnconfined (acrossFace G i 0)
+      well zero h s e = absurd (true≢false (sym s ∙ dry))
+      well (suc i) h s e = let z : _≡_ {A = ℕ} 0 1 = cc in absurd (omega arith)
+
+      within : (i j : ℕ) → i < G .layers → 0 < j → j < G .columns → OfUnconfined (acrossFace G i j)
+      within zero j h u v e = (on-table j u, on-table (suc j) (omega arith))
+      within (suc i) j h u v e = let z : _≡_ {A = ℕ} 0 1 = cc in absurd (omega arith)
+
+      down : (i j : ℕ) → suc i < G .layers → 0 < j → j < G .columns → OfUnconfined (downFace G i j)
+      down zero j h u v e = let z : _≡_ {A = ℕ} 0 1 = cc in absurd (omega arith)
+      down (suc i) j h u v e = let z : _≡_ {A = ℕ} 0 1 = cc in absurd (omega arith)
+
+  -- the kept C between layers 1 and 2 is the value at s = 0
+  abbrev pub KeptAtTable : Type 0
+  KeptAtTable = (j : ℕ) → 0 < j → j < G .columns → G .down 0 j ≡ fromTable (G .area j) (G .kv₁) (G .thickness₂) (G .kv₂) 0
+
+  table-faces : 0 < G .thickness₂ → KeptAtTable → (f : Face) → List·Memᴰ f (facesOf G) → OfTable f
+  unfolding acrossFace downFace acrossRule downRule
+  table-faces thick keeps = every-face OfTable (λ i h s. across i 0) (λ i j h u v. across i j) down
+    where
+      across : (i j : ℕ) → OfTable (acrossFace G i j)
+      across zero j a kv₁ b₂ kv₂ e = let z : _≡_ {A = ℕ} 0 1 = cc in absurd (omega arith)
+      across (suc i) j a kv₁ b₂ kv₂ e = let z : _≡_ {A = ℕ} 0 1 = cc in absurd (omega arith)
+
+      down : (i j : ℕ) → suc i < G .layers → 0 < j → j < G .columns → OfTable (downFace G i j)
+      down zero j h u v a kv₁ b₂ kv₂ e =
+          let p : G .area j ≡ a = cc in
+          let q : G .kv₁ ≡ kv₁ = cc in
+          let r : G .thickness₂ ≡ b₂ = cc in
+          let s : G .kv₂ ≡ kv₂ = cc in
+          (on-table j u, omega arith, rw (← p, ← q, ← r, ← s) (keeps j u v))
+      down (suc i) j h u v a kv₁ b₂ kv₂ e = let z : _≡_ {A = ℕ} 0 1 = cc in absurd (omega arith)
+
+  pub proper-grid : G .screened 0 ≡ false → 0 < G .wellStorage → ((i j : ℕ) → i < G .layers → 0 < j → j < G .columns → 0 < G .storage i j) → 1000 * G .intake ≤ drawdownLimit
+      → 0 < G .thickness₂ → KeptAtTable → Proper (networkOf G)
   unfolding networkOf storageAt placeCount onePerPlace
-  proper-grid dry well cells intake = record {
+  proper-grid dry well cells intake thick keeps = record {
     well = omega arith;
     storages = by-place G (λ p. 0 < storageAt (networkOf G) p) well (λ i r hi hr. rw (getD-one G (G .wellStorage) (G .storage) 0 i r hi hr) (cells i (suc r) hi (omega arith) hr));
     intake = intake;
     unconfined = unconfined-faces dry;
+    table = table-faces thick keeps;
   }

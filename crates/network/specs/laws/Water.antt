@@ -1,38 +1,42 @@
 -- C in use is between 0 and C, and water that it lets through in Δt. Every bound on a step rests on in-use alone.
 use mathlib.Core.Path.{_≡_, refl, sym}
-use mathlib.Core.Bool.{Bool, true, false, cond}
-use Prim.Native.Nat.{ℕ, _+_, _*_, _-_, _/_, _^_, _≤_, zero-le}
+use Prim.Native.Nat.{ℕ, _+_, _*_, _-_, _/_, _^_, _<_, _≤_, zero-le}
 use native.Mathlib.Decide.{decLe}
 use native.Mathlib.Nat.{le-refl, mul-le-mul, mul-le-mul-left, mul-le-mul-right, div-mul-le-self, div-le-of-le-mul}
 use native.Mathlib.Omega.{arith}
-use lib.IntN.{ℤ, pos, negℤ, natAbs, _+ℤ_, _*ℤ_}
-use lib.Signed.{shrZ}
+use lib.IntN.{ℤ, pos, negℤ, natAbs}
 use Rattle.laws.specs.Integer.{plus, minus, diff-neg, diff-le, plus-neg, minus-neg, natural, pos-≤ℤ, UpTo, abs-up-to, odd-times, odd-by, odd-quot}
-use Rattle.network.specs.Network.{Face, Network, saturated, inUse, water}
+use Rattle.geometry.specs.Geometry.{fromTable}
+use Rattle.geometry.specs.Laws.{from-table-le}
+use Rattle.network.specs.Network.{Rule, saturated, atTable, inUseBy, water}
 
--- C in use is at most C while, on an unconfined face, both drawdowns are within layer 1
-pub in-use : (N : Network) (f : Face) (Da Db : ℤ) → (f .unconfined ≡ true → UpTo (1000 * N .thickness) Da × UpTo (1000 * N .thickness) Db) → UpTo (f .conductance) (inUse N f Da Db)
-unfolding inUse saturated
-in-use N f Da Db h = go (f .unconfined) h
-  where
-    C : ℕ
-    C = f .conductance
+-- C in use is at most C: on an unconfined face while both drawdowns are within layer 1, on one below the water table while end one's is and C is the value
+-- at s = 0
+module _ (b₁ C : ℕ) where
+  abbrev pub WithinLayer : ℤ → Type 0
+  WithinLayer D = UpTo (1000 * b₁) D
 
-    b₁ : ℕ
-    b₁ = N .thickness
+  pub reduced : (a b : ℕ) → a ≤ 1000 * b₁ → b ≤ 1000 * b₁ → UpTo C (inUseBy b₁ C Rule.unconfined (pos a) (pos b))
+  unfolding inUseBy saturated
+  reduced a b u v = rw (diff-le (1000 * b₁) a u, diff-le (1000 * b₁) b v) (pos-≤ℤ zero-le, pos-≤ℤ (div-le-of-le-mul (2000 * b₁) (omega (arith, mul-le-mul-left C (most a b u v)))))
+    where
+      most : (a b : ℕ) → a ≤ 1000 * b₁ → b ≤ 1000 * b₁ → 1000 * b₁ - a + (1000 * b₁ - b) ≤ 2000 * b₁
+      most a b u v = omega arith
 
-    reduced : ℤ → ℤ → ℤ
-    reduced a b = shrZ (pos C *ℤ (saturated N a +ℤ saturated N b)) (2000 * b₁)
+  lowered : (x kv₁ b₂ kv₂ a : ℕ) (Db : ℤ) → a ≤ 1000 * b₁ → 0 < b₂ → C ≡ fromTable x kv₁ b₂ kv₂ 0 → UpTo C (inUseBy b₁ C (Rule.table x kv₁ b₂ kv₂) (pos a) Db)
+  unfolding inUseBy saturated atTable
+  lowered x kv₁ b₂ kv₂ a Db u p e = rw (diff-le (1000 * b₁) a u, e) (pos-≤ℤ zero-le, pos-≤ℤ (from-table-le x kv₁ b₂ kv₂ (1000 * b₁ - a) p))
 
-    part : (a b : ℕ) → a ≤ 1000 * b₁ → b ≤ 1000 * b₁ → UpTo C (reduced (pos a) (pos b))
-    part a b u v = rw (diff-le (1000 * b₁) a u, diff-le (1000 * b₁) b v) (pos-≤ℤ zero-le, pos-≤ℤ (div-le-of-le-mul (2000 * b₁) (omega (arith, mul-le-mul-left C (most a b u v)))))
-      where
-        most : (a b : ℕ) → a ≤ 1000 * b₁ → b ≤ 1000 * b₁ → 1000 * b₁ - a + (1000 * b₁ - b) ≤ 2000 * b₁
-        most a b u v = omega arith
-
-    go : (t : Bool) → (t ≡ true → UpTo (1000 * b₁) Da × UpTo (1000 * b₁) Db) → UpTo C (cond t (reduced Da Db) (pos C))
-    go false k = (pos-≤ℤ zero-le, pos-≤ℤ (le-refl C))
-    go true k = rw (natural (k refl .0 .0), natural (k refl .1 .0)) (part (natAbs Da) (natAbs Db) (abs-up-to (k refl .0)) (abs-up-to (k refl .1)))
+  pub in-use : (r : Rule) (Da Db : ℤ)
+      → (r ≡ Rule.unconfined → WithinLayer Da × WithinLayer Db)
+      → ((x kv₁ b₂ kv₂ : ℕ) → r ≡ Rule.table x kv₁ b₂ kv₂ → WithinLayer Da × (0 < b₂) × (C ≡ fromTable x kv₁ b₂ kv₂ 0))
+      → UpTo C (inUseBy b₁ C r Da Db)
+  unfolding inUseBy
+  in-use Rule.fixed Da Db h k = (pos-≤ℤ zero-le, pos-≤ℤ (le-refl C))
+  in-use Rule.unconfined Da Db h k = let w = h refl in rw (natural (w .0 .0), natural (w .1 .0)) (reduced (natAbs Da) (natAbs Db) (abs-up-to (w .0)) (abs-up-to (w .1)))
+  in-use (Rule.table x kv₁ b₂ kv₂) Da Db h k =
+      let w = k x kv₁ b₂ kv₂ refl in
+      rw (natural (w .0 .0)) (lowered x kv₁ b₂ kv₂ (natAbs Da) Db (abs-up-to (w .0)) (w .1) (w .2))
 
 -- ---- water between drawdowns a and b, neither below 0
 

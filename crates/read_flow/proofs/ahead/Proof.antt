@@ -1,7 +1,6 @@
 -- `read_flow::ahead` meets its contract: D at both ends, C in use, and from them the water of the face that joins them.
 use mathlib.Core.Path.{_≡_}
 use lib.IntN.{pos}
-use borrow.Author.Needs.{needs}
 use Rattle.network.specs.Network.{drawdown}
 use Rattle.network.specs.Grid.{networkOf}
 use Rattle.record.specs.Record.{gridOf, stateOf}
@@ -21,8 +20,8 @@ joint c = led _ _ _ (c .pre .1)
 
 -- ---- D at both ends
 
-abbrev at-next : tie.After-in-use-arg4 → tie.After-drawdown-at2
-at-next c = c .before .before .before .before .before .before
+abbrev at-next : tie.After-in-use-arg3 → tie.After-drawdown-at2
+at-next c = c .before .before .before .before .before
 
 abbrev at-here : tie.After-drawdown-at2 → tie.After-drawdown-at
 at-here c = c .before .before .before .before
@@ -30,13 +29,13 @@ at-here c = c .before .before .before .before
 abbrev from-here : tie.After-drawdown-at → tie.Start
 from-here c = c .before .before .before .before .before
 
-abbrev start : tie.After-in-use-arg4 → tie.Start
+abbrev start : tie.After-in-use-arg3 → tie.Start
 start c = from-here (at-here (at-next c))
 
-here : (c : tie.After-in-use-arg4) → pos (at-here (at-next c) .drawdown-at .result) ≡ drawdown (networkOf (gridOf (start c .args .t1))) (stateOf (start c .args .t1) .losses) (numberOf (gridOf (start c .args .t1)) (start c .args .from))
+here : (c : tie.After-in-use-arg3) → pos (at-here (at-next c) .drawdown-at .result) ≡ drawdown (networkOf (gridOf (start c .args .t1))) (stateOf (start c .args .t1) .losses) (numberOf (gridOf (start c .args .t1)) (start c .args .from))
 here c = let s = start c in depth-back _ (known s) (joint s) _ (s .pre .2) (s .pre .3) (joined-ends _ (known s) (joint s) .0) _ (at-here (at-next c) .drawdown-at .ensures)
 
-next : (c : tie.After-in-use-arg4) → pos (at-next c .drawdown-at2 .result) ≡ drawdown (networkOf (gridOf (start c .args .t1))) (stateOf (start c .args .t1) .losses) (numberOf (gridOf (start c .args .t1)) (start c .args .to))
+next : (c : tie.After-in-use-arg3) → pos (at-next c .drawdown-at2 .result) ≡ drawdown (networkOf (gridOf (start c .args .t1))) (stateOf (start c .args .t1) .losses) (numberOf (gridOf (start c .args .t1)) (start c .args .to))
 next c = let s = start c in depth-back _ (known s) (joint s) _ (s .pre .2) (s .pre .3) (joined-ends _ (known s) (joint s) .1) _ (at-next c .drawdown-at2 .ensures)
 
 -- ---- what is asked, and the answer
@@ -46,9 +45,6 @@ drawdown-at-requires c κs = let s = c .before .before .before .before in rw (we
 
 drawdown-at-requires-2 : tie.Need-drawdown-at-requires-2
 drawdown-at-requires-2 c κs = let s = from-here (c .before .before .before) in rw (well-back _ (known s)) (end-asks _ (known s) (joined-ends _ (known s) (joint s) .1))
-
-element-copy-out-in-use : tie.Need-element-copy-out-in-use
-element-copy-out-in-use c = search needs
 
 in-use-requires : tie.Need-in-use-requires
 in-use-requires c κs = let s = start c in in-use-asks _ (known s) (joint s) _ (s .pre .2) (s .pre .3) _ _ (here c) (next c)
@@ -71,7 +67,6 @@ ahead-spec =
     (tie.spec
     drawdown-at-requires
     drawdown-at-requires-2
-    element-copy-out-in-use
     in-use-requires
     crossing-requires
     returns)

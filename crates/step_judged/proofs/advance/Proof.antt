@@ -22,7 +22,7 @@ use Rattle.step_judged.proofs.advance.Tie as tie
 abbrev held : tie.Start → Lent
 held c =
     let a = c .args in
-    lent (a .terms) (a .course .«well_loss») (a .course .inflow) (now (a .screen)) (now (a .horizontal)) (now (a .vertical)) (now (a .storages)) (now (a .losses))
+    lent (a .terms) (a .course .«well_loss») (a .course .inflow) (now (a .areas)) (now (a .screen)) (now (a .horizontal)) (now (a .vertical)) (now (a .storages)) (now (a .losses))
 
 asked : (c : tie.Start) → Advancing (held c) (c .args .terms .intake) (c .args .course .pumped) (c .args .course .time)
 asked c = c .pre .0
@@ -47,14 +47,14 @@ module _ (c : tie.After-work-step) where
 
   -- the losses of the cells after it
   abbrev left : List ℤ
-  left = c .work-step .last .1 .1 .1 .1 .1 .1 .1 .1 .0
+  left = c .work-step .last .1 .1 .1 .1 .1 .1 .1 .1 .1 .0
 
   losses-worked : left ≡ lossesOf (held start)
   losses-worked = rw (well-back (asked start), inflow-back (asked start)) at (c .work-step .ensures .losses)
 
   -- and those before it, which are kept aside
   abbrev aside : List ℤ
-  aside = c .work-step .last .1 .1 .1 .1 .1 .1 .1 .1 .1 .1 .1 .1 .0
+  aside = c .work-step .last .1 .1 .1 .1 .1 .1 .1 .1 .1 .1 .1 .1 .1 .0
 
   -- the slots given back make the losses what they were
   undone : {ls : List ℤ} → ls ≡ fill (50 * (start .args .terms .layers - 1) + (start .args .terms .columns - 1)) (λ k. getD aside k (pos 0)) left → ls ≡ now (start .args .losses)
@@ -82,7 +82,7 @@ number-is c =
     let at = from-judged c in
     let a = start at .args in
     let deep : c .too-deep .result ≡ tooDeep (a .terms) (toZ w64 (ofZ w64 (at .work-step .result .«well_loss»))) (now (a .storages)) (left at) = c .too-deep .ensures in
-    deep ∙ judged _ _ _ _ _ _ _ _ _ _ (roomy (counted (at .before))) (well-worked at) (losses-worked at)
+    deep ∙ judged _ _ _ _ _ _ _ _ _ _ _ (roomy (counted (at .before))) (well-worked at) (losses-worked at)
 
 -- ---- the answers
 
@@ -108,7 +108,7 @@ too-deep-requires c κs =
     ((q .intake, q .wellStorage, rw (well-worked at) (q .wellLoss)), (q .workable .columns .1, q .thickness, rw (losses-worked at) (q .table)))
 
 restore-requires : tie.Need-restore-requires
-restore-requires c κs = let q = asked (start (from-judged (c .before .before .before))) .workable in (q .layers .0, q .layers .1, omega (arith, q .columns), q .columns .1)
+restore-requires c κs = let q = asked (start (from-judged (c .before .before .before))) .workable in (omega (arith, q .layers), q .layers .1, omega (arith, q .columns), q .columns .1)
 
 halted-requires-2 : tie.Need-halted-requires-2
 halted-requires-2 c κs = omega (arith, c .before .before .before .if2 .taken)

@@ -8,12 +8,12 @@ use lib.ListN.{getD}
 use mir.Syntax.{w64}
 use mir.Val.{SFits, toZ, ofZ}
 use mir.Facts.{toZ-ofZ}
-use Rattle.laws.specs.Span.{spans, spans-none, spans-more}
+use Rattle.laws.specs.Span.{spans, spans-none, spans-more, span-ext}
 use Rattle.laws.specs.Signed.{back, room-fits, Adding, adding-start, adding-more, adding-done}
 use Rattle.limits.specs.Limits.{totalLimit}
 use Rattle.step_flows.specs.Flows.{screenAt}
 use Rattle.step_losses.specs.Losses.{Water, waterIn, changed, inflowFrom, wellLimit, sweptOf}
-use Rattle.step_losses.proofs.Laws.{row-last, row-loss, row-within, span-ext, spans-rest}
+use Rattle.step_losses.proofs.Laws.{row-last, row-loss, row-within, spans-rest}
 use Rattle.step_losses.proofs.sweep.Statement.{statement}
 use Rattle.step_losses.proofs.sweep.Tie as tie
 

@@ -7,6 +7,8 @@ use borrow.Author.Needs.{needs}
 use lib.IntN.{ℤ}
 use Rattle.record.specs.declared.Record.{Record}
 use Rattle.record.specs.declared.Answer.{Answer}
+use Rattle.coefficient_cells.specs.Worked.{areasOf}
+use Rattle.validity.specs.Laws.{valid-record, valid-limits}
 use Rattle.step_sweep.specs.Worked.{Scratch}
 use Rattle.step_rules.specs.Step.{stepOf}
 use Rattle.step_rules.specs.Ready.{Ready, withCourse}
@@ -19,28 +21,37 @@ use Rattle.step_run.proofs.run.Statement.{statement}
 use Rattle.step_run.proofs.run.Tie as tie
 
 abbrev Inv-loop : tie.InvT-loop
-Inv-loop rate dt steps «record» terms multipliers losses₀ depths₀ conductances₀ down₀ before₀ course₀ taken₀ losses depths conductances down before course taken =
+Inv-loop rate dt steps «record» terms areas multipliers losses₀ depths₀ conductances₀ down₀ before₀ course₀ taken₀ losses depths conductances down before course taken =
     Scratch (terms .layers) (terms .columns) («record» .horizontal) depths conductances down before
     × Ready (withCourse «record» course losses) rate dt
     × (stepsOf rate dt taken (steps - taken) (withCourse «record» course losses) ≡ stepsOf rate dt 0 steps «record»)
 
 abbrev μ-loop : tie.MeasureT-loop
-μ-loop rate dt steps «record» terms multipliers losses₀ depths₀ conductances₀ down₀ before₀ course₀ taken₀ losses depths conductances down before course taken =
+μ-loop rate dt steps «record» terms areas multipliers losses₀ depths₀ conductances₀ down₀ before₀ course₀ taken₀ losses depths conductances down before course taken =
     steps - taken
 
 -- ---- before the first step
 
+abbrev ringed : tie.After-multipliers-arg Inv-loop μ-loop → tie.After-areas-of Inv-loop μ-loop
+ringed c = c .before .before
+
 abbrev termed : tie.After-multipliers-arg Inv-loop μ-loop → tie.After-terms-of Inv-loop μ-loop
-termed c = c .before .before
+termed c = ringed c .before .before
 
 abbrev multiplied : tie.After-course-of Inv-loop μ-loop → tie.After-multipliers Inv-loop μ-loop
 multiplied c = c .before .before .before
 
+abbrev areas-from : tie.After-course-of Inv-loop μ-loop → tie.After-areas-of Inv-loop μ-loop
+areas-from c = ringed (multiplied c .before .before)
+
 abbrev from-course : tie.After-course-of Inv-loop μ-loop → tie.After-terms-of Inv-loop μ-loop
-from-course c = termed (multiplied c .before .before)
+from-course c = areas-from c .before .before
 
 terms-of-requires : tie.Need-terms-of-requires Inv-loop μ-loop
 terms-of-requires c κs = tt
+
+areas-of-requires : tie.Need-areas-of-requires Inv-loop μ-loop
+areas-of-requires c κs = let s = c .before .before in valid-limits _ (valid-record _ (s .pre .passed))
 
 slots-built-requires : tie.Need-slots-built-requires Inv-loop μ-loop
 slots-built-requires c κs =
@@ -66,7 +77,7 @@ loop-holds c =
 -- ---- one step more
 
 abbrev from-lent : tie.After-multipliers2 Inv-loop μ-loop → tie.In-loop Inv-loop μ-loop
-from-lent c = c .before .before .before .before .before .before
+from-lent c = c .before .before .before .before .before .before .before
 
 abbrev turn : tie.After-before2 Inv-loop μ-loop → tie.In-loop Inv-loop μ-loop
 turn c = from-lent (c .before .before .before .before .before)
@@ -85,10 +96,13 @@ module _ (at : tie.At-loop Inv-loop μ-loop) where
   terms-are : termed-at .terms-of .result ≡ termsOf held (termed-at .terms-of .result .«well_multiplier») (a .args .rate) (a .args .dt)
   terms-are = termed-at .terms-of .ensures .0
 
+  areas-are : areas-from (at .before) .areas-of .result ≡ areasOf (held .site)
+  areas-are = areas-from (at .before) .areas-of .ensures
+
 advance-requires : tie.Need-advance-requires Inv-loop μ-loop
 advance-requires c κs =
     let at = turn c .before in
-    (asks-terms (held at) (a at .args .rate) (a at .args .dt) (at .loop .inv .1) (terms-are at), ((multiplied (at .before) .multipliers .ensures, termed-at at .terms-of .ensures .1), at .loop .inv .0))
+    (asks-terms (held at) (a at .args .rate) (a at .args .dt) (at .loop .inv .1) (terms-are at) (areas-are at), ((multiplied (at .before) .multipliers .ensures, termed-at at .terms-of .ensures .1), at .loop .inv .0))
 
 module _ (c : tie.After-advance Inv-loop μ-loop) where
   abbrev here : tie.In-loop Inv-loop μ-loop
@@ -99,10 +113,10 @@ module _ (c : tie.After-advance Inv-loop μ-loop) where
 
   -- the losses after the step
   abbrev left : List ℤ
-  left = c .advance .last .1 .1 .1 .1 .1 .1 .1 .0
+  left = c .advance .last .1 .1 .1 .1 .1 .1 .1 .1 .0
 
   moved-on : let s = a (here .before) .args in _≡_ {A = Answer} (record { outcome = c .advance .result .outcome; «record» = withCourse was (c .advance .result .course) left }) (stepOf was (s .rate) (s .dt))
-  moved-on = let at = here .before in stepped was (a at .args .rate) (a at .args .dt) (at .loop .inv .1) (terms-are at) (c .advance .ensures)
+  moved-on = let at = here .before in stepped was (a at .args .rate) (a at .args .dt) (at .loop .inv .1) (terms-are at) (areas-are at) (c .advance .ensures)
 
 enum-told : tie.Need-enum-told Inv-loop μ-loop
 enum-told c = search needs
@@ -153,6 +167,7 @@ run-spec =
     Inv-loop
     μ-loop
     terms-of-requires
+    areas-of-requires
     slots-built-requires
     multipliers-requires
     course-of-requires

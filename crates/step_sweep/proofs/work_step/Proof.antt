@@ -25,7 +25,7 @@ use Rattle.step_sweep.proofs.work_step.Tie as tie
 abbrev lentTo : tie.Start → Lent
 lentTo s =
     let a = s .args in
-    lent (a .terms) (a .well-loss) (a .inflow) (now (a .screen)) (now (a .horizontal)) (now (a .vertical)) (now (a .storages)) (now (a .losses))
+    lent (a .terms) (a .well-loss) (a .inflow) (now (a .areas)) (now (a .screen)) (now (a .horizontal)) (now (a .vertical)) (now (a .storages)) (now (a .losses))
 
 asked : (s : tie.Start) → Workable (lentTo s)
 asked s = s .pre .0
@@ -96,7 +96,7 @@ module _ (m : tie.After-down-flows) where
   conductances = reduced .in-use .last .1 .1 .1 .1 .0
 
   abbrev down : List ℤ
-  down = m .down-flows .last .1 .1 .1 .1 .1 .0
+  down = m .down-flows .last .1 .1 .1 .1 .1 .1 .1 .1 .1 .1 .0
 
   whole-losses : length (now (start .args .losses)) ≡ 1000
   whole-losses = pumped deep .before .before .whole .ensures
@@ -151,7 +151,10 @@ down-flows-requires : tie.Need-down-flows-requires
 down-flows-requires c κs =
     let d = c .before .before .before .before .before in
     let p = asked (first d) in
-    ((omega (arith, p .layers), omega (arith, p .columns), p .dt), (depths-le d, λ k h. rw (flow-lower (lentTo (first d)) p (depths d) (drawn-are d) k h) (p .lowers k)))
+    let l = lentTo (first d) in (
+      (omega (arith, p .layers), omega (arith, p .layers), omega (arith, p .columns), p .dt, p .tabled),
+      ((depths-le d, λ k h. table-le l p (depths d) (drawn-are d) k (omega arith)), λ k h. rw (flow-lower l p (depths d) (drawn-are d) k h) (p .lowers k)),
+    )
 
 -- the arrays are made when the losses are swept
 abbrev made : tie.After-sweep-arg5 → tie.After-down-flows

@@ -1,5 +1,5 @@
 //! The catalogue of edges: every limit of document 01, as document 02 changes it, that a text can reach,
-//! at its last accepted and first refused value; and grids in which many drawdowns are equal.
+//! at its last accepted and first refused value; grids in which many drawdowns are equal; and water tables drawn down far.
 
 use super::damage::line_replaced;
 use super::draft::{text_of, Draft};
@@ -7,6 +7,8 @@ use super::draft::{FRICTION, HORIZONTAL, INTAKE, RADIUS, REPEATS, SCREENED, STOR
 use super::Case;
 use crate::geometry;
 use crate::limits;
+use crate::listing;
+use crate::refusal::Refusal;
 
 /// All edges, in a fixed order.
 pub fn catalogue() -> Vec<Case> {
@@ -24,6 +26,8 @@ pub fn catalogue() -> Vec<Case> {
     edges.steps();
     edges.wide_columns();
     edges.equal_drawdowns();
+    edges.below_layer_1();
+    edges.water_tables();
     edges.0
 }
 
@@ -98,8 +102,8 @@ impl Edges {
         self.edit("k-intake-17", &k, 0, |draft| draft.well[INTAKE] = 17);
         self.edit("k-intake-16", &k, 0, |draft| draft.well[INTAKE] = 16);
         self.edit("k-rate", &k, 0, |draft| draft.pumping[0][0] = limits::RATE + 1);
-        self.edit("k-length-658805", &k, 0, |draft| draft.pumping[0] = [1000, 658_805, 1]);
-        self.edit("k-length-658806", &k, 0, |draft| draft.pumping[0] = [1000, 658_806, 1]);
+        self.edit("k-length-657001", &k, 0, |draft| draft.pumping[0] = [1000, 657_001, 1]);
+        self.edit("k-length-657002", &k, 0, |draft| draft.pumping[0] = [1000, 657_002, 1]);
         self.add("empty", Vec::new(), 1);
     }
 
@@ -373,10 +377,7 @@ impl Edges {
             draft.pumping = vec![[166_667, 3, 1], [499_999, 1, 1], [1, 1, 2]];
         });
         for (name, draft) in [("plain", plain(100)), ("far", far_reaching()), ("thin", thin())] {
-            let longest = draft.longest_step();
-            self.edit(&format!("step-longest-{name}"), &draft, 0, |draft| {
-                draft.pumping = vec![[1, longest, 3], [1, longest + 1, 3], [0, longest, 3]];
-            });
+            self.edit(&format!("step-longest-{name}"), &at_the_longest(draft, 1, 3), 0, |_| ());
         }
     }
 
@@ -415,6 +416,125 @@ impl Edges {
             self.edit(name, &draft, 0, |_| ());
         }
     }
+
+    /// The C between layers 1 and 2 at s = 0, which 6 and 8 use (document 02, N6): 10^15, over that and over a word, and 0 by a Kv; then as
+    /// what limits the step, at a cell of layer 1 and at one of layer 2.
+    fn below_layer_1(&mut self) {
+        let draft = at_the_longest(closely_coupled(), 10_000_000, 40);
+        self.edit("c-below-last", &draft, 0, |_| ());
+        self.edit("c-below-over", &draft, 6, |draft| draft.layers[1][THICKNESS] -= 1);
+        self.edit("c-below-over-a-word", &far_reaching(), 6, |draft| {
+            draft.layers[0][VERTICAL] = 100_000_000;
+            draft.layers[1] = [1, 0, 20_000, 100_000_000, 20_000];
+        });
+        self.edit("c-below-kv-0", &draft, 0, |draft| {
+            draft.layers[0][VERTICAL] = 0;
+            draft.layers[1][THICKNESS] -= 1;
+        });
+        for (name, specific_yield) in [("top", 5), ("second", 1000)] {
+            let draft = at_the_longest(thin_second(specific_yield), 100_000, 40);
+            self.edit(&format!("step-longest-{name}"), &draft, 0, |_| ());
+        }
+    }
+
+    /// Water tables drawn down far, to the bottom of layer 1 and past it, and rising again (document 02, N6).
+    fn water_tables(&mut self) {
+        let draft = thin_top();
+        self.edit("table-at-bottom", &draft, 0, |_| ());
+        self.edit("table-past-bottom", &draft, 0, |draft| {
+            let last = draft.pumping.len() - 1;
+            draft.pumping[last][REPEATS] += 1;
+        });
+        for (name, draft) in [
+            ("table-columns", thin_top_columns()),
+            ("table-two-layers", low_table_of_two()),
+            ("table-thick", thick_top()),
+            ("table-rises", rising_table(360)),
+            ("table-past-bottom-at-rest", rising_table(400)),
+        ] {
+            self.edit(name, &draft, 0, |_| ());
+        }
+    }
+}
+
+/// A draft with steps of a rate at the longest length that 8 allows, and one µs above it, and a rest.
+fn at_the_longest(mut draft: Draft, rate: u64, repeats: u64) -> Draft {
+    let longest = draft.longest_step();
+    draft.pumping = vec![[rate, longest, repeats], [rate, longest + 1, repeats], [0, longest, repeats]];
+    draft
+}
+
+/// Two layers whose C at s = 0 is 10^15: A_1 is 5,000,000 mm² for each mm of b_2.
+fn closely_coupled() -> Draft {
+    let layers = vec![[20, 0, 100, 100_000_000, 2000], [1626, 1, 100_000_000, 100_000_000, 1_000_000]];
+    pumped(layers, vec![51_000, 90_000], [3625, 1_000_000_000, 19, 20_000], &[])
+}
+
+/// A layer 2 of 10 mm, faster than layer 1: their C at s = 0, two hundred times the one in use while layer 1 is full, limits the step, at
+/// layer 1 where it yields little, else at layer 2.
+fn thin_second(specific_yield: u64) -> Draft {
+    let mut draft = plain(100);
+    draft.layers = vec![
+        [100, 0, 100, 10_000, specific_yield],
+        [10, 0, 100, 100_000, 1_000_000],
+        [2000, 1, 100_000, 100_000, 100_000],
+    ];
+    draft.well[INTAKE] = 109;
+    draft
+}
+
+/// Adds entries of a rate, their steps as long as may be and then ten, a hundred .. times shorter, each of as many steps as are taken until
+/// 11 refuses one.
+fn pump_to_bottom(draft: &mut Draft, rate: u64, entries: u32) {
+    let mut record = draft.start().expect("the draft is accepted");
+    let longest = draft.longest_step();
+    for shorter in 0..entries {
+        let length = longest / 10u64.pow(shorter);
+        let (outcome, taken) = listing::repeat(&mut record, rate, length, 1000);
+        assert_eq!(outcome, Err(Refusal::WaterTable));
+        draft.pumping.push([rate, length, taken]);
+    }
+}
+
+/// A layer 1 of 4 mm, slow above fast ones, pumped until its water table is at its bottom: 44 steps.
+fn thin_top() -> Draft {
+    let fast = |screened| [1000, screened, 100_000, 1_000_000, 1_000_000];
+    let layers = vec![[4, 0, 0, 1000, 10_000], fast(0), fast(1)];
+    let mut draft = pumped(layers, vec![500, 1300], [100, 30_000, 1003, 50_000], &[]);
+    pump_to_bottom(&mut draft, 1000, 5);
+    draft
+}
+
+/// A layer 1 of 6 mm over seven stored columns, pumped until its water table is at its bottom in the first: 226 steps. The last has hardly
+/// begun to be drawn down.
+fn thin_top_columns() -> Draft {
+    let fast = |screened| [500, screened, 200_000, 500_000, 1_000_000];
+    let layers = vec![[6, 0, 20_000, 2000, 5000], fast(0), fast(1), fast(0), fast(1)];
+    let radii = vec![200, 300, 450, 700, 1000, 1500, 2200, 3300];
+    let mut draft = pumped(layers, radii, [100, 30_000, 505, 50_000], &[]);
+    pump_to_bottom(&mut draft, 2000, 4);
+    draft
+}
+
+/// Two layers, the least there are. The intake keeps the water table 1 mm above the bottom of layer 1 at least.
+fn low_table_of_two() -> Draft {
+    let layers = vec![[60, 0, 0, 100_000, 20], [300, 1, 1_000_000, 1_000_000, 100_000]];
+    pumped(layers, vec![1200, 6000], [1000, 50, 59, 50_000], &[(86, 200), (0, 10), (0, 50)])
+}
+
+/// A layer 1 of 30 m, drawn down by more than half of it.
+fn thick_top() -> Draft {
+    let layers =
+        vec![[30_000, 0, 0, 10_000_000, 100], [2000, 0, 0, 400_000, 20_000], [4000, 1, 20_000, 400_000, 20_000]];
+    pumped(layers, vec![500, 3000], [100, 200, 31_000, 50_000], &[(4800, 60), (4800, 60), (0, 50)])
+}
+
+/// Pumping, and a rest in which the water table goes on falling, to its bottom and past it if the rate was high enough; else it rises
+/// again, as layer 2 gives water back to layer 1.
+fn rising_table(rate: u64) -> Draft {
+    let layers =
+        vec![[50, 0, 0, 20_000, 300], [100, 0, 200_000, 400_000, 1_000_000], [1000, 1, 1_000_000, 400_000, 1_000_000]];
+    pumped(layers, vec![400, 900, 1500], [100, 2000, 149, 50_000], &[(rate, 150), (0, 30), (0, 100)])
 }
 
 /// Columns each nine times as wide as the one before it, pumped and at rest in turn for 2,000 steps.
@@ -484,7 +604,7 @@ fn ties_in_um() -> Draft {
 fn all_deep() -> Draft {
     let layer = |number: u64| [1000, u64::from(number % 3 == 2), 900 + 5 * number, 20_000, 1_000_000];
     let mut layers: Vec<_> = (1..=20).map(layer).collect();
-    layers[0] = [100_000, 0, 1, 20_000, 100];
+    layers[0] = [100_000, 0, 1, 100_000, 300];
     let well = [5000, 1_000_000, 90_000, 20_000];
     pumped(layers, narrow_radii(50), well, &[(250_000, 60), (100_000, 60), (0, 30)])
 }

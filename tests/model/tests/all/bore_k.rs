@@ -1,4 +1,4 @@
-//! The bore K of document 01, whole.
+//! The bore K of document 01, whole, with the figures that document 02 (N4, N6) moves.
 
 use reference_model::geometry;
 use reference_model::grid::{cell, slot, Place};
@@ -7,7 +7,7 @@ use reference_model::mistake::Mistake;
 use reference_model::readings;
 use reference_model::record::{start, Record};
 use reference_model::refusal::Refusal;
-use reference_model::step::{step, step_with};
+use reference_model::step::{step, step_with, top_vertical_in_use};
 use reference_model::text::{pumping_entry, Entry};
 
 /// The numbers of bore K's text.
@@ -53,7 +53,7 @@ pub fn equal<T: PartialEq + std::fmt::Debug>(what: &str, found: T, wanted: T) ->
     }
 }
 
-/// The steps of bore K, made with a mistake or none, held to document 01.
+/// The steps of bore K, made with a mistake or none, held to its figures.
 pub fn check_steps(mistake: Option<Mistake>) -> Result<(), String> {
     let mut k = record();
     equal("step 1", step_with(&mut k, 1000, 500_000, mistake), Ok(()))?;
@@ -61,12 +61,12 @@ pub fn check_steps(mistake: Option<Mistake>) -> Result<(), String> {
     equal("entry 1", figures(&k), Ok((1_000_000, 33_015, 1_000_000_000, 990_468_379, 9_531_621, 0)))?;
     equal("inward", readings::flow(&k, cell(2, 1), Place::Well, 500_000), Ok(15_267_409))?;
     equal("from the last column", readings::flow(&k, cell(2, 2), cell(2, 1), 500_000), Ok(3_614_535))?;
-    equal("down", readings::flow(&k, cell(1, 1), cell(2, 1), 500_000), Ok(3970))?;
+    equal("down", readings::flow(&k, cell(1, 1), cell(2, 1), 500_000), Ok(2165))?;
     equal("step 3", step_with(&mut k, 1000, 500_000, mistake), Ok(()))?;
     equal("entry 2", figures(&k), Ok((1_500_000, 49_173, 1_500_000_000, 1_475_200_970, 21_184_495, 3_614_535)))?;
-    equal("layer 2", readings::drawdown(&k, cell(2, 1)), Ok(14_045))?;
-    equal("longest step", step_with(&mut record(), 1000, 658_805, mistake), Ok(()))?;
-    equal("too long a step", step_with(&mut record(), 1000, 658_806, mistake), Err(Refusal::Stability))
+    equal("layer 2", readings::drawdown(&k, cell(2, 1)), Ok(14_046))?;
+    equal("longest step", step_with(&mut record(), 1000, 657_001, mistake), Ok(()))?;
+    equal("too long a step", step_with(&mut record(), 1000, 657_002, mistake), Err(Refusal::Stability))
 }
 
 /// Time, well's drawdown and budget of a record.
@@ -93,7 +93,8 @@ fn coefficients_of_k() {
     assert_eq!(k.well_c[1], 1_143_840_361);
     assert_eq!(k.across_c[slot(2, 1)], 1_143_840_361);
     assert_eq!(k.across_c[slot(1, 1)], 5_719_201_805);
-    assert_eq!(k.down_c[slot(1, 1)], 1_256_636);
+    assert_eq!(k.down_c[slot(1, 1)], 7_539_820);
+    assert_eq!(top_vertical_in_use(&k.site(), 1, 0), 685_438);
     assert_eq!(k.cell_s[slot(1, 1)], 150_796_400_000);
     assert_eq!(k.cell_s[slot(2, 1)], 1_507_964_000);
     assert_eq!(k.well_s, 30_000_000_000);
@@ -142,7 +143,7 @@ fn refused_listings_of_k() {
     let header = LISTING.lines().next().unwrap();
     let second = "2 500000 16666 500000000 500000000 0 0";
     assert_eq!(listing(&changed(RATE, 10_000_001)), format!("{header}\nrefused 1 7\n{second}\n"));
-    assert_eq!(listing(&changed(LENGTH, 658_806)), format!("{header}\nrefused 1 8\n{second}\n"));
+    assert_eq!(listing(&changed(LENGTH, 657_002)), format!("{header}\nrefused 1 8\n{second}\n"));
     // The first of entry 1's two steps stays, the second would pass the intake, and so would entry 2's.
     assert_eq!(listing(&changed(INTAKE, 17)), format!("{header}\nrefused 1 10\nrefused 2 10\n"));
     let without = text_of(&[&NUMBERS[..20], &[0]].concat());

@@ -82,14 +82,14 @@ fn refused_scenarios_are_no_failure() {
 fn start_and_entries_are_printed() {
     let k = text_of(&NUMBERS);
     let start = printed(model_on("k-start", &["start"], &k));
-    assert!(start.contains("\nwellC 2 1143840361\nacrossC 1 5719201805\nacrossC 2 1143840361\ndownC 1 1256636\n"));
+    assert!(start.contains("\nwellC 2 1143840361\nacrossC 1 5719201805\nacrossC 2 1143840361\ndownC 1 7539820\n"));
     assert!(start.ends_with("wellS 30000000000\ncellS 1 150796400000\ncellS 2 1507964000\n"));
     assert!(start.starts_with(&printed(model_on("k-brief", &["brief"], &k))));
     assert_eq!(printed(model_on("k-entry", &["entry", "2"], &k)), "entry 1000 500000 1\n");
     assert_eq!(printed(model_on("k-entry-3", &["entry", "3"], &k)), "refused 12\n");
     let readings = printed(model_on("k-readings", &["readings"], &k));
     assert!(readings
-        .contains("\ninward 500000 2 15267409\nacross 500000 1 0\nacross 500000 2 -3614535\ndown 500000 1 3970\n"));
+        .contains("\ninward 500000 2 15267409\nacross 500000 1 0\nacross 500000 2 -3614535\ndown 500000 1 2165\n"));
 }
 
 #[test]
@@ -98,6 +98,13 @@ fn changed_records_are_stepped() {
     assert!(records.starts_with("unchanged taken "));
     // Three layers, layer 2 without screen, a time at its limit and one past it.
     for line in ["counts 3 refused 14", "numbers 25 refused 14", "totals 5 refused 9 ", "totals 6 refused 14"] {
+        assert!(records.contains(&format!("\n{line}")), "{line}");
+    }
+    // The C between layers 1 and 2: at its value, one less, one more, document 01's; another b_2, with it and without, and another b_1.
+    for line in ["below 1 taken", "below 2 refused 14", "below 3 refused 14", "below 4 refused 14"] {
+        assert!(records.contains(&format!("\n{line}")), "{line}");
+    }
+    for line in ["layers 5 taken", "alone 2 refused 14", "alone 13 taken"] {
         assert!(records.contains(&format!("\n{line}")), "{line}");
     }
 }

@@ -69,7 +69,7 @@ fn a_record_is_judged_before_the_list() {
 const EDGES: [&str; 4] = ["equal-layers", "equal-layers-coupled", "ties-in-um", "all-deep"];
 
 /// The text of an edge.
-fn edge(name: &str) -> Vec<u8> {
+pub fn edge(name: &str) -> Vec<u8> {
     let scenarios = Scenarios::new(0);
     let mut edges = (0..scenarios.whole()).step_by(2).map(|number| scenarios.case(number));
     edges.find(|case| case.name == name).expect("an edge of this name").text

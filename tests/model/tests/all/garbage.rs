@@ -4,9 +4,10 @@
 use crate::bore_k;
 use crate::calls::check_state;
 use crate::records::sample;
+use reference_model::geometry;
 use reference_model::grid::{cell, slot, Place};
 use reference_model::head_loss::head_loss;
-use reference_model::ledger::{Face, Ledger, Stored};
+use reference_model::ledger::{Face, InUse, Ledger, Stored};
 use reference_model::random::Random;
 use reference_model::readings;
 use reference_model::record::{start, Record};
@@ -21,17 +22,25 @@ fn ledger_of(record: &Record) -> Ledger {
     let stored = |loss: i64, storage: u64| Stored { loss: loss.into(), storage: storage.into() };
     let mut places = BTreeMap::from([(Place::Well, stored(record.well_loss, record.well_s))]);
     let mut faces = Vec::new();
-    let mut join = |from, to, conductance: u64, water_table| {
-        faces.push(Face { from, to, conductance: conductance.into(), water_table, crossed: 0 });
+    let mut join = |from, to, conductance: u64, in_use| {
+        faces.push(Face { from, to, conductance: conductance.into(), in_use, crossed: 0 });
     };
+    let site = record.site();
     for (layer, column) in record.stored_cells() {
         let at = slot(layer, column);
         places.insert(cell(layer, column), stored(record.cell_loss[at], record.cell_s[at]));
-        join(cell(layer, column), cell(layer, column + 1), record.across_c[at], layer == 1);
-        join(cell(layer, column), cell(layer + 1, column), record.down_c[at], false);
+        let (across, down) = if layer == 1 {
+            let area = geometry::area(site.radius(column - 1), site.radius(column));
+            let below = (record.thickness[1], record.vertical[1]);
+            (InUse::WaterTable, InUse::TopVertical { area, k_above: record.vertical[0], below })
+        } else {
+            (InUse::Whole, InUse::Whole)
+        };
+        join(cell(layer, column), cell(layer, column + 1), record.across_c[at], across);
+        join(cell(layer, column), cell(layer + 1, column), record.down_c[at], down);
     }
     for layer in 1..=record.layers as usize {
-        join(Place::Well, cell(layer, 1), record.well_c[layer - 1], false);
+        join(Place::Well, cell(layer, 1), record.well_c[layer - 1], InUse::Whole);
     }
     let mut ledger = Ledger {
         places,
@@ -143,7 +152,7 @@ fn spoilt_records() {
     assert!(refused > 3000 && allowed > 300, "{refused} refused, {allowed} allowed");
 }
 
-/// Any coefficients and losses within their limits.
+/// Any coefficients and losses within their limits. The C below layer 1 goes with the scenario's numbers, and any Kv_1 above 0 with that C.
 fn fill_at_random(random: &mut Random, record: &mut Record) {
     let most_c = random.spread(1, 1_000_000_000_000_000);
     let most_s = random.spread(1, 1_000_000_000_000_000_000);
@@ -161,11 +170,16 @@ fn fill_at_random(random: &mut Random, record: &mut Record) {
             record.well_c[layer - 1] = random.spread(0, most_c);
         }
     }
+    if record.vertical[0] > 0 {
+        record.vertical[0] = random.spread(1, 100_000_000);
+    }
     let cells: Vec<_> = record.stored_cells().collect();
     for (layer, column) in cells {
         let at = slot(layer, column);
         record.across_c[at] = random.spread(0, most_c);
-        record.down_c[at] = if layer as u64 == record.layers { 0 } else { random.spread(0, most_c) };
+        if layer > 1 && (layer as u64) < record.layers {
+            record.down_c[at] = random.spread(0, most_c);
+        }
         record.cell_s[at] = random.spread(1, most_s);
         record.cell_loss[at] = loss(random, record.cell_s[at], if layer == 1 { bottom } else { 1_000_000_000 });
     }

@@ -127,6 +127,6 @@ fn head_loss_is_judged_in_order() {
     }
     assert_eq!(head_loss(&k, 2, 0), Err(Refusal::Call));
     assert_eq!(head_loss(&k, 2, 1_000_000_001), Err(Refusal::Call));
-    assert_eq!(head_loss(&k, 2, 658_806), Err(Refusal::Stability));
-    assert!(head_loss(&k, 2, 658_805).is_ok());
+    assert_eq!(head_loss(&k, 2, 657_002), Err(Refusal::Stability));
+    assert!(head_loss(&k, 2, 657_001).is_ok());
 }

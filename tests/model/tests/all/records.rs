@@ -1,11 +1,14 @@
 //! Refusal 14: each condition broken once, beside its nearest allowed neighbour; refusals 9 to 11 at their edges.
 
 use crate::bore_k::text_of;
+use reference_model::coefficients::top_vertical;
 use reference_model::grid::slot;
 use reference_model::limits::{CELLS, COLUMNS, LAYERS};
 use reference_model::record::{start, Record};
 use reference_model::refusal::Refusal;
 use reference_model::step::step;
+
+const MOST_C: u64 = 1_000_000_000_000_000;
 
 /// Four layers, the lower two screened, five columns, one coefficient, at its start.
 pub fn sample() -> Record {
@@ -22,6 +25,24 @@ pub fn sample() -> Record {
 /// An edited copy of the sample has this fault or none.
 fn expect(fault: Option<&str>, edit: impl Fn(&mut Record)) {
     expect_fault(fault, &edit);
+}
+
+/// The same of a copy in which the C below layer 1 goes with the edit.
+fn expect_carried(fault: Option<&str>, edit: impl Fn(&mut Record)) {
+    expect(fault, |record| {
+        edit(record);
+        carry(record);
+    });
+}
+
+/// Puts into the slots of the C below layer 1 what the record's numbers give, at most 10^15, where they are numbers of a scenario.
+fn carry(record: &mut Record) {
+    let site = record.site();
+    if site.numbers_in_limits() && site.radii_allowed() {
+        for column in 1..site.columns() {
+            record.down_c[slot(1, column)] = top_vertical(&site, column, 0).min(MOST_C.into()) as u64;
+        }
+    }
 }
 
 fn expect_fault(fault: Option<&str>, edit: &dyn Fn(&mut Record)) {
@@ -56,12 +77,14 @@ fn counts() {
 fn scenario_numbers() {
     let number = Some("scenario number");
     for (value, fault) in [(0, number), (1, None), (1_000_000, None), (1_000_001, number), (u64::MAX, number)] {
-        expect(fault, |record| record.thickness[1] = value);
+        expect_carried(fault, |record| record.thickness[1] = value);
     }
     expect(number, |record| record.screened[1] = 2);
     expect(None, |record| record.screened[1] = 1);
     for (value, fault) in [(0, None), (100_000_000, None), (100_000_001, number)] {
         expect(fault, |record| record.horizontal[2] = value);
+        expect_carried(fault, |record| record.vertical[0] = value);
+        expect_carried(fault, |record| record.vertical[1] = value);
         expect(fault, |record| record.vertical[3] = value);
     }
     for (value, fault) in [(0, number), (1, None), (100_000_000, None), (100_000_001, number)] {
@@ -97,17 +120,17 @@ fn scenario_numbers() {
 fn rules_4_and_5() {
     // u_3 is 700 + R_3, at most nine times u_2 = 300 + 700 = 1000, and R_4 is above R_3.
     for (value, fault) in [(700, Some("radii")), (701, None), (8300, None), (8301, Some("radii"))] {
-        expect(fault, |record| (record.radii[2], record.radii[3], record.radii[4]) = (value, 8400, 8500));
+        expect_carried(fault, |record| (record.radii[2], record.radii[3], record.radii[4]) = (value, 8400, 8500));
     }
     // At the last column u_5 is 3000 + R_5 and u_4 is 1600 + 3000.
     expect(None, |record| record.radii[4] = 9 * (1600 + 3000) - 3000);
     expect(Some("radii"), |record| record.radii[4] = 9 * (1600 + 3000) - 3000 + 1);
     expect(Some("radii"), |record| record.radii[4] = 3000);
     // At the well u_1 is R_0 + 300 and u_0 is 2 R_0.
-    expect(None, |record| record.well_radius = 18);
-    expect(Some("radii"), |record| record.well_radius = 17);
-    expect(Some("radii"), |record| record.well_radius = 300);
-    expect(None, |record| record.well_radius = 299);
+    expect_carried(None, |record| record.well_radius = 18);
+    expect_carried(Some("radii"), |record| record.well_radius = 17);
+    expect_carried(Some("radii"), |record| record.well_radius = 300);
+    expect_carried(None, |record| record.well_radius = 299);
     expect(None, |record| record.intake_depth = 12_999);
     expect(Some("screen"), |record| record.intake_depth = 13_000);
     expect(Some("screen"), |record| record.screened[0] = 1);
@@ -120,7 +143,6 @@ fn rules_4_and_5() {
 
 #[test]
 fn coefficients() {
-    const MOST_C: u64 = 1_000_000_000_000_000;
     const MOST_S: u64 = 1_000_000_000_000_000_000;
     expect(Some("well's S"), |record| record.well_s += 1);
     expect(Some("well's S"), |record| record.well_s = 0);
@@ -131,6 +153,43 @@ fn coefficients() {
     }
     for (value, outside) in [(0, true), (1, false), (MOST_S, false), (MOST_S + 1, true), (u64::MAX, true)] {
         expect(outside.then_some("cell's S"), |record| record.cell_s[slot(2, 4)] = value);
+    }
+}
+
+#[test]
+fn c_below_layer_1() {
+    let other = Some("C below layer 1");
+    // In every stored column it is the value at s = 0, and no other.
+    for column in 1..=4 {
+        let at = slot(1, column);
+        let kept = sample().down_c[at];
+        assert_eq!(u128::from(kept), top_vertical(&sample().site(), column, 0));
+        for (value, fault) in [(kept, None), (kept - 1, other), (kept + 1, other), (0, other)] {
+            expect(fault, |record| record.down_c[at] = value);
+        }
+        expect(other, |record| record.down_c[at] = MOST_C);
+        expect(Some("vertical C"), |record| record.down_c[at] = MOST_C + 1);
+    }
+    // What it is worked from, alone: A_j, b_2 and Kv_2, and a Kv of 0.
+    expect(other, |record| record.well_radius = 101);
+    for column in 0..4 {
+        expect(other, |record| record.radii[column] += 1);
+    }
+    expect(other, |record| record.thickness[1] += 1);
+    expect(other, |record| record.vertical[1] += 1);
+    expect(other, |record| record.vertical[0] = 0);
+    expect(other, |record| record.vertical[1] = 0);
+    // The last radius, and at s = 0 also b_1 and a Kv_1 above 0, have no part in it.
+    expect(None, |record| record.radii[4] += 1);
+    expect(None, |record| record.thickness[0] += 1);
+    expect(None, |record| record.vertical[0] = 1);
+    expect(None, |record| record.vertical[0] = 100_000_000);
+    // Numbers whose C is over 10^15, or over a word, are no record's, whatever the slot holds.
+    for (b, k, fault) in [(20_000, 10_000_000, None), (20_000, 100_000_000, other), (1, 100_000_000, other)] {
+        expect_carried(fault, |record| {
+            record.radii[..5].copy_from_slice(&[900, 7000, 60_000, 500_000, 600_000]);
+            (record.thickness[1], record.vertical[1]) = (b, k);
+        });
     }
 }
 
@@ -235,6 +294,7 @@ fn still() -> Record {
     record.well_c = [0; LAYERS];
     record.across_c = [0; CELLS];
     record.down_c = [0; CELLS];
+    record.vertical = [0; LAYERS];
     record
 }
 
@@ -251,17 +311,20 @@ fn well_drawdown_of_a_step() {
 
 #[test]
 fn water_table_of_a_step() {
-    // Layer 1 stands 1 µm above its bottom; in this step it takes on the drawdown of the cell below.
+    // The water table is 1 µm above the bottom of layer 1, where the C in use is 628004 and a nl is a µm: it loses 1 nl, or 2 where the
+    // cell below is a µm deeper. By the C that is kept, 628318, it would lose 2 both times.
     let (at, below) = (slot(1, 2), slot(2, 2));
-    for (depth, outcome) in [(9_000_000, Ok(())), (9_000_001, Err(Refusal::WaterTable))] {
+    for (difference, outcome) in [(3_184_693, Ok(())), (3_184_694, Err(Refusal::WaterTable))] {
         let mut record = still();
-        record.down_c[at] = 1_000_000_000_000;
+        (record.vertical[0], record.vertical[1]) = (1, 1000);
+        carry(&mut record);
+        assert_eq!(record.down_c[at], 628_318);
         (record.cell_s[at], record.cell_s[below]) = (1_000_000, 1_000_000);
-        (record.cell_loss[at], record.cell_loss[below]) = (8_999_999, depth);
-        record.pumped = (8_999_999 + depth) as u64;
+        (record.cell_loss[at], record.cell_loss[below]) = (8_999_999, 8_999_999 + difference);
+        record.pumped = (2 * 8_999_999 + difference) as u64;
         let before = record.clone();
         assert_eq!(step(&mut record, 0, 1), outcome);
-        assert_eq!(record.cell_loss[at], if outcome.is_ok() { depth } else { 8_999_999 });
+        assert_eq!(record.cell_loss[at], if outcome.is_ok() { 9_000_000 } else { 8_999_999 });
         assert_eq!(outcome.is_err(), record == before);
     }
 }

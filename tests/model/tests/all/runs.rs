@@ -8,9 +8,9 @@ use reference_model::listing::run_entry;
 use reference_model::mistake::Mistake;
 use reference_model::random::Random;
 use reference_model::readings;
-use reference_model::record::start;
+use reference_model::record::{start, Record};
 use reference_model::scenarios::{grid_size, Scenarios};
-use reference_model::text::{read, Scenario};
+use reference_model::text::{read, Entry, Scenario};
 use std::collections::BTreeSet;
 
 /// The accepted texts among a seed's first ones, every edge among them.
@@ -41,15 +41,22 @@ fn text_for_calls(scenarios: &Scenarios, number: u64) -> Vec<u8> {
 }
 
 /// One random list of calls on one random scenario, the steps made with a mistake or none.
-/// After each call the state is the ledger's, and so is the storage loss of a random set.
 pub fn check_calls(scenarios: &Scenarios, number: u64, mistake: Option<Mistake>) -> Result<(), String> {
-    let text = text_for_calls(scenarios, number);
-    let scenario = read(&text).expect("the text is accepted");
-    let mut ledger = Ledger::start(&text).expect("the text is accepted");
-    let at_start = start(&text).1;
+    check_list(&text_for_calls(scenarios, number), 0, number, mistake)
+}
+
+/// A random list of calls on a text, after so many of its entries, the steps made with a mistake or none.
+/// After each call the state is the ledger's, and so is the storage loss of a random set.
+pub fn check_list(text: &[u8], entries: usize, seed: u64, mistake: Option<Mistake>) -> Result<(), String> {
+    let scenario = read(text).expect("the text is accepted");
+    let mut ledger = Ledger::start(text).expect("the text is accepted");
+    let at_start = start(text).1;
     let mut record = at_start.clone();
+    for &entry in &scenario.pumping[..entries] {
+        run_both(&mut record, &mut ledger, entry);
+    }
     let longest = longest_step(&ledger);
-    let mut drawer = Drawer { random: Random::new(number), scenario: &scenario, longest };
+    let mut drawer = Drawer { random: Random::new(seed), scenario: &scenario, longest };
     check_state(&record, &ledger)?;
     for _ in 0..60 {
         let call = drawer.call(&record, &at_start);
@@ -59,6 +66,13 @@ pub fn check_calls(scenarios: &Scenarios, number: u64, mistake: Option<Mistake>)
         equal("set's budget", readings::storage_loss(&record, &set), set_loss(&ledger, &scenario.site, &set))?;
     }
     Ok(())
+}
+
+/// Runs an entry on a record and in the ledger, which must agree.
+fn run_both(record: &mut Record, ledger: &mut Ledger, entry: Entry) {
+    let ledgers = (0..entry.repeats).try_for_each(|_| ledger.step(entry.rate, entry.length));
+    assert_eq!(run_entry(record, entry), ledgers);
+    assert_eq!(check_state(record, ledger), Ok(()));
 }
 
 #[test]
@@ -81,9 +95,7 @@ fn whole_runs_agree_with_the_ledger() {
         let mut record = start(&text).1;
         let mut ledger = Ledger::start(&text).expect("the text is accepted");
         for entry in scenario.pumping {
-            let ledgers = (0..entry.repeats).try_for_each(|_| ledger.step(entry.rate, entry.length));
-            assert_eq!(run_entry(&mut record, entry), ledgers);
-            assert_eq!(check_state(&record, &ledger), Ok(()));
+            run_both(&mut record, &mut ledger, entry);
             for threshold in [0, record.well_drawdown() / 1000, record.well_drawdown() / 30] {
                 assert_eq!(deep_cells(&record, &ledger, threshold, vec![7; places]), Ok(()));
             }

@@ -1,0 +1,132 @@
+-- `step_flows::table_row` meets its contract: after k turns the first k slots are filled.
+use mathlib.Core.Path.{_≡_, sym, _∙_}
+use Prim.Native.Nat.{_≤_, _-_, _+_}
+use native.Mathlib.Omega.{arith}
+use denote.Ref.{now}
+use lib.IntN.{pos}
+use lib.ListN.{getD}
+use Rattle.laws.specs.Fill.{fill, fill-none, fill-more}
+use Rattle.laws.specs.Signed.{back}
+use Rattle.step_flows.specs.Flows.{loweredC, tableFlowAt}
+use Rattle.step_flows.proofs.table_row.Statement.{statement}
+use Rattle.step_flows.proofs.table_row.Tie as tie
+
+abbrev Inv-loop : tie.InvT-loop
+Inv-loop areas depths thickness kv1 b2 kv2 stored dt down₀ k₀ down k = (k ≤ stored) × (down ≡ fill k (tableFlowAt thickness kv1 b2 kv2 areas depths dt) down₀)
+
+abbrev μ-loop : tie.MeasureT-loop
+μ-loop areas depths thickness kv1 b2 kv2 stored dt down₀ k₀ down k = stored - k
+
+loop-holds : tie.Need-loop-holds Inv-loop μ-loop
+loop-holds c = (omega arith, sym (fill-none _ _))
+
+add-lowered : tie.Need-add-lowered Inv-loop μ-loop
+add-lowered c = omega arith
+
+mul-lowered : tie.Need-mul-lowered Inv-loop μ-loop
+mul-lowered c = omega arith
+
+element-copy-out-lowered : tie.Need-element-copy-out-lowered Inv-loop μ-loop
+element-copy-out-lowered c = omega arith
+
+mul-lowered-2 : tie.Need-mul-lowered-2 Inv-loop μ-loop
+mul-lowered-2 c = omega arith
+
+element-copy-out-lowered-2 : tie.Need-element-copy-out-lowered-2 Inv-loop μ-loop
+element-copy-out-lowered-2 c = omega arith
+
+lowered-requires : tie.Need-lowered-requires Inv-loop μ-loop
+lowered-requires c κs =
+    let at = c .before .before .before in
+    let p = at .before .pre in
+    let k = at .loop .k in
+    let t = p .0 .2 in (
+      (t .areas-most k (omega arith), t .thickness-most, t .kv₁-most, t .b₂-least, t .b₂-most, t .kv₂-most),
+      (p .1 .0 .1 k (omega arith), t .fits k (omega arith)),
+    )
+
+mul-crossing : tie.Need-mul-crossing Inv-loop μ-loop
+mul-crossing c = omega arith
+
+element-copy-out-crossing : tie.Need-element-copy-out-crossing Inv-loop μ-loop
+element-copy-out-crossing c = omega arith
+
+add-crossing : tie.Need-add-crossing Inv-loop μ-loop
+add-crossing c = omega arith
+
+mul-crossing-2 : tie.Need-mul-crossing-2 Inv-loop μ-loop
+mul-crossing-2 c = omega arith
+
+element-copy-out-crossing-2 : tie.Need-element-copy-out-crossing-2 Inv-loop μ-loop
+element-copy-out-crossing-2 c = omega arith
+
+-- C in use of the face, from s of layer 1
+in-use : (c : tie.After-lowered Inv-loop μ-loop) →
+    let at = c .before .before .before .before in
+    let a = at .before .args in
+    pos (c .lowered .result) ≡ loweredC (a .thickness) (a .kv1) (a .b2) (a .kv2) (getD (now (a .areas)) (at .loop .k + 1) 0) (pos (getD (now (a .depths)) (at .loop .k) 0))
+in-use c = c .lowered .ensures
+
+crossing-requires : tie.Need-crossing-requires Inv-loop μ-loop
+unfolding tableFlowAt
+crossing-requires c κs =
+    let with = c .before .before in
+    let at = with .before .before .before .before in
+    let p = at .before .pre in
+    let k = at .loop .k in
+    ((p .1 .0 .0 k, p .1 .0 .0 (k + 50), omega arith), rw (in-use with) (p .1 .1 k (omega arith)))
+
+mul-t27 : tie.Need-mul-t27 Inv-loop μ-loop
+mul-t27 c = omega arith
+
+element-set-from-down : tie.Need-element-set-from-down Inv-loop μ-loop
+element-set-from-down c = omega arith
+
+add-k : tie.Need-add-k Inv-loop μ-loop
+add-k c = omega arith
+
+loop-less : tie.Need-loop-less Inv-loop μ-loop
+loop-less c = omega arith
+
+loop-again : tie.Need-loop-again Inv-loop μ-loop
+unfolding tableFlowAt
+loop-again c =
+    let with = c .before .before .before in
+    let at = with .before .before .before .before in
+    let a = at .before .args in (
+      omega arith,
+      fill-more (tableFlowAt (a .thickness) (a .kv1) (a .b2) (a .kv2) (now (a .areas)) (now (a .depths)) (a .dt)) (now (a .down)) (at .loop .k) (at .loop .inv .1)
+          (back (c .crossing .result) (c .crossing .ok) ∙ rw (in-use with) at (c .crossing .ensures)),
+    )
+
+returns : tie.Need-returns Inv-loop μ-loop
+returns c =
+    let at = c .before in
+    let e : at .loop .k ≡ at .before .args .stored = omega arith in
+    at .loop .inv .1 ∙ rw e
+
+pub table-row-spec : {M : Type 1} → statement M
+table-row-spec =
+    tie.close
+    (tie.spec
+    Inv-loop
+    μ-loop
+    loop-holds
+    add-lowered
+    mul-lowered
+    element-copy-out-lowered
+    mul-lowered-2
+    element-copy-out-lowered-2
+    lowered-requires
+    mul-crossing
+    element-copy-out-crossing
+    add-crossing
+    mul-crossing-2
+    element-copy-out-crossing-2
+    crossing-requires
+    mul-t27
+    element-set-from-down
+    add-k
+    loop-less
+    loop-again
+    returns)
