@@ -112,8 +112,10 @@ fn table_row<'a>(
 {
     let mut k: usize = 0;
     while k < stored {
-        let c = lowered(areas[k + 1], thickness, kv1, b2, kv2, depths[k]);
-        down[k] = crossing(c, depths[k], depths[k + COLUMN_PLACES], dt);
+        let here = depths[k];
+        let below = depths[k + COLUMN_PLACES];
+        let c = lowered(areas[k + 1], thickness, kv1, b2, kv2, here);
+        down[k] = crossing(c, here, below, dt);
         k += 1;
     }
 }

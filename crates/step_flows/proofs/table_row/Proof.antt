@@ -20,6 +20,21 @@ abbrev μ-loop : tie.MeasureT-loop
 loop-holds : tie.Need-loop-holds Inv-loop μ-loop
 loop-holds c = (omega arith, sym (fill-none _ _))
 
+mul-here : tie.Need-mul-here Inv-loop μ-loop
+mul-here c = omega arith
+
+element-copy-out-here : tie.Need-element-copy-out-here Inv-loop μ-loop
+element-copy-out-here c = omega arith
+
+add-below : tie.Need-add-below Inv-loop μ-loop
+add-below c = omega arith
+
+mul-below : tie.Need-mul-below Inv-loop μ-loop
+mul-below c = omega arith
+
+element-copy-out-below : tie.Need-element-copy-out-below Inv-loop μ-loop
+element-copy-out-below c = omega arith
+
 add-lowered : tie.Need-add-lowered Inv-loop μ-loop
 add-lowered c = omega arith
 
@@ -29,15 +44,13 @@ mul-lowered c = omega arith
 element-copy-out-lowered : tie.Need-element-copy-out-lowered Inv-loop μ-loop
 element-copy-out-lowered c = omega arith
 
-mul-lowered-2 : tie.Need-mul-lowered-2 Inv-loop μ-loop
-mul-lowered-2 c = omega arith
-
-element-copy-out-lowered-2 : tie.Need-element-copy-out-lowered-2 Inv-loop μ-loop
-element-copy-out-lowered-2 c = omega arith
+-- the turn, from where the three numbers are read
+abbrev turn : tie.After-lowered-arg Inv-loop μ-loop → tie.At-loop Inv-loop μ-loop
+turn c = c .before .before .before .before
 
 lowered-requires : tie.Need-lowered-requires Inv-loop μ-loop
 lowered-requires c κs =
-    let at = c .before .before .before in
+    let at = turn c in
     let p = at .before .pre in
     let k = at .loop .k in
     let t = p .0 .2 in (
@@ -45,24 +58,9 @@ lowered-requires c κs =
       (p .1 .0 .1 k (omega arith), t .fits k (omega arith)),
     )
 
-mul-crossing : tie.Need-mul-crossing Inv-loop μ-loop
-mul-crossing c = omega arith
-
-element-copy-out-crossing : tie.Need-element-copy-out-crossing Inv-loop μ-loop
-element-copy-out-crossing c = omega arith
-
-add-crossing : tie.Need-add-crossing Inv-loop μ-loop
-add-crossing c = omega arith
-
-mul-crossing-2 : tie.Need-mul-crossing-2 Inv-loop μ-loop
-mul-crossing-2 c = omega arith
-
-element-copy-out-crossing-2 : tie.Need-element-copy-out-crossing-2 Inv-loop μ-loop
-element-copy-out-crossing-2 c = omega arith
-
 -- C in use of the face, from s of layer 1
 in-use : (c : tie.After-lowered Inv-loop μ-loop) →
-    let at = c .before .before .before .before in
+    let at = turn (c .before) in
     let a = at .before .args in
     pos (c .lowered .result) ≡ loweredC (a .thickness) (a .kv1) (a .b2) (a .kv2) (getD (now (a .areas)) (at .loop .k + 1) 0) (pos (getD (now (a .depths)) (at .loop .k) 0))
 in-use c = c .lowered .ensures
@@ -70,14 +68,13 @@ in-use c = c .lowered .ensures
 crossing-requires : tie.Need-crossing-requires Inv-loop μ-loop
 unfolding tableFlowAt
 crossing-requires c κs =
-    let with = c .before .before in
-    let at = with .before .before .before .before in
+    let at = turn (c .before) in
     let p = at .before .pre in
     let k = at .loop .k in
-    ((p .1 .0 .0 k, p .1 .0 .0 (k + 50), omega arith), rw (in-use with) (p .1 .1 k (omega arith)))
+    ((p .1 .0 .0 k, p .1 .0 .0 (k + 50), omega arith), rw (in-use c) (p .1 .1 k (omega arith)))
 
-mul-t27 : tie.Need-mul-t27 Inv-loop μ-loop
-mul-t27 c = omega arith
+mul-t15 : tie.Need-mul-t15 Inv-loop μ-loop
+mul-t15 c = omega arith
 
 element-set-from-down : tie.Need-element-set-from-down Inv-loop μ-loop
 element-set-from-down c = omega arith
@@ -91,8 +88,8 @@ loop-less c = omega arith
 loop-again : tie.Need-loop-again Inv-loop μ-loop
 unfolding tableFlowAt
 loop-again c =
-    let with = c .before .before .before in
-    let at = with .before .before .before .before in
+    let with = c .before in
+    let at = turn (with .before) in
     let a = at .before .args in (
       omega arith,
       fill-more (tableFlowAt (a .thickness) (a .kv1) (a .b2) (a .kv2) (now (a .areas)) (now (a .depths)) (a .dt)) (now (a .down)) (at .loop .k) (at .loop .inv .1)
@@ -112,19 +109,17 @@ table-row-spec =
     Inv-loop
     μ-loop
     loop-holds
+    mul-here
+    element-copy-out-here
+    add-below
+    mul-below
+    element-copy-out-below
     add-lowered
     mul-lowered
     element-copy-out-lowered
-    mul-lowered-2
-    element-copy-out-lowered-2
     lowered-requires
-    mul-crossing
-    element-copy-out-crossing
-    add-crossing
-    mul-crossing-2
-    element-copy-out-crossing-2
     crossing-requires
-    mul-t27
+    mul-t15
     element-set-from-down
     add-k
     loop-less
