@@ -1,6 +1,7 @@
 // The changes, by group and number. Each is one number that document 01 limits, at its last allowed and its first forbidden value, or a few
 // numbers that go together. `before` is what stood there.
-// A change of R_0, R_1, b_2 or Kv_2 has bore K's C between layers 1 and 2 with it (document 02, N6): 2×A_1×Kv_2/b_2, rounded down.
+// Where a change of R_0, R_1, b_2 or Kv_2 would else be refused for the C between layers 1 and 2 (document 02, N6), it has the C with it that
+// bore K then keeps, 2×A_1×Kv_2/b_2, rounded down; that of R_0 to 5001 has the largest grid's.
 use record::Record;
 use site::Site;
 

@@ -25,7 +25,7 @@ pub record Logarithms (s : Site) (l : List ℕ) : Type 0 where
   pub at : (j : ℕ) → j < s .columns → getD l j 0 ≡ logarithmAt s j
   pub above : (j : ℕ) → j < s .columns → 0 < getD l j 0
 
--- A_j of each column j before the last, mm², as an array: slot 0 is the well's, which has no ring of its own
+-- A_j of each column j from 1 to the one before the last, mm², as an array; slot 0 holds 0
 unfoldable pub areasOf : Site → List ℕ
 areasOf s = fill (s .columns) (areaAt s) (replicate columnPlaces 0)
 

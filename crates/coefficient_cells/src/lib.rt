@@ -36,7 +36,7 @@ pub fn logarithms_of(site: Site) -> [u64; COLUMN_PLACES]
     logarithms
 }
 
-// Area A_j, mm², in slot j for each column j before the last; slot 0 is the well's, which has no ring of its own.
+// Area A_j, mm², in slot j for each column j from 1 to the one before the last; slot 0 holds 0.
 pub fn areas_of(site: Site) -> [u64; COLUMN_PLACES]
     requires { ⌜ InLimits site ⌝ }
     ensures { λ r. ⌜ r ≡ areasOf site ⌝ }

@@ -235,7 +235,7 @@ module _ (r : Record) (counts : countsHold (r .site) ≡ true) where
   narrow : r .site .columns ≤ 50
   narrow = counts-hold (r .site) counts .columns-most
 
-  across-in : (i j : ℕ) → 1 ≤ j → acrossIn r i j ≡ getD (r .horizontal) (slot i j) 0
+  across-in : (i j : ℕ) → 1 ≤ j → acrossIn (r .screen) (r .horizontal) i j ≡ getD (r .horizontal) (slot i j) 0
   unfolding acrossIn
   across-in i zero h = absurd (omega arith)
   across-in i (suc j) h = refl

@@ -27,7 +27,7 @@ scenarioGrid s = record {
   thickness = getD (s .thickness) 0 0;
   area = areaAt s;
   kv₁ = getD (s .kv) 0 0;
-  thickness₂ = getD (s .thickness) 1 0;
+  b₂ = getD (s .thickness) 1 0;
   kv₂ = getD (s .kv) 1 0;
   intake = s .intake;
 }

@@ -125,7 +125,7 @@ network-from : (places thickness intake : ℕ) {fs fs′ : List Face} {vs vs′ 
     (record { places = places; faces = fs′; storages = vs′; thickness = thickness; table = ts′; intake = intake })
 network-from places thickness intake p q r = rw (p, q, r)
 
-module _ (layers columns : ℕ) (screened : ℕ → Bool) (well thickness : ℕ) (area : ℕ → ℕ) (kv₁ thickness₂ kv₂ intake : ℕ) where
+module _ (layers columns : ℕ) (screened : ℕ → Bool) (well thickness : ℕ) (area : ℕ → ℕ) (kv₁ b₂ kv₂ intake : ℕ) where
   abbrev gridWith : (ℕ → ℕ → ℕ) → (ℕ → ℕ → ℕ) → (ℕ → ℕ → ℕ) → Grid
   gridWith across down storage = record {
     layers = layers;
@@ -138,7 +138,7 @@ module _ (layers columns : ℕ) (screened : ℕ → Bool) (well thickness : ℕ)
     thickness = thickness;
     area = area;
     kv₁ = kv₁;
-    thickness₂ = thickness₂;
+    b₂ = b₂;
     kv₂ = kv₂;
     intake = intake;
   }

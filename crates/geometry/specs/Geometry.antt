@@ -34,13 +34,14 @@ area outer inner = 3373259426 * (outer ^ 2 - inner ^ 2) / 2 ^ 30
 unfoldable pub horizontal : ℕ → ℕ → ℕ → ℕ
 horizontal b kh Λ = b * kh * 6746518852 / Λ
 
--- vertical C over area a between a layer below layer 1, of thickness b₁ and conductivity kv₁, and the next one: equations 5 and 6 of document 000
+-- vertical C over area a between a layer below layer 1, of thickness b₁ and conductivity kv₁, and the next one, of b₂ and kv₂ (document 01's b_a, Kv_a, b_b
+-- and Kv_b): equations 5 and 6 of document 000
 unfoldable pub vertical : ℕ → ℕ → ℕ → ℕ → ℕ → ℕ
 vertical a b₁ kv₁ b₂ kv₂ = cond (eqb kv₁ 0 || eqb kv₂ 0) 0 (a * 2 * kv₁ * kv₂ / (b₁ * kv₂ + b₂ * kv₁))
 
 -- vertical C over area a between layers 1 and 2, where the water table is s µm above the bottom of layer 1 (document 02, N6): equations 5 and 6 of
--- document 000 with its second rule for cells in the top layer, by which L is the distance from the water table to the centre of layer 2, s/1000 and
--- half of b₂; times the difference of drawdowns it is the listing's KBAR*ATOP*GRAD
+-- document 000 with its second rule for cells in the top layer, by which L is the distance from the water table to the centre of layer 2, s/1000 mm and
+-- half of b₂; here kv₁ is Kv_1, and b₂ and kv₂ are b_2 and Kv_2. Times the difference of drawdowns it is the listing's KBAR*ATOP*GRAD
 unfoldable pub fromTable : ℕ → ℕ → ℕ → ℕ → ℕ → ℕ
 fromTable a kv₁ b₂ kv₂ s = cond (eqb kv₁ 0 || eqb kv₂ 0) 0 (a * 1000 * kv₁ * kv₂ / (s * kv₂ + 500 * b₂ * kv₁))
 

@@ -69,7 +69,7 @@ pub fn horizontal(b: u64, kh: u64, log: u64) -> Quotient
     quotient(b * kh, 6746518852, log)
 }
 
-// Vertical C over an area between a layer below layer 1 and the next one; 0 if either lets no water through.
+// Vertical C over an area between a layer below layer 1, of b1 and kv1, and the next one; 0 if either lets no water through.
 pub fn vertical(a: u64, b1: u64, kv1: u64, b2: u64, kv2: u64) -> Quotient
     requires { ⌜ (a ≤ 2 ^ 44) × (0 < b1) × (b1 ≤ 1000000) × (kv1 ≤ 100000000) × (b2 ≤ 1000000) × (kv2 ≤ 100000000) ⌝ }
     ensures { λ r. ⌜ r ≡ fitted (vertical a b1 kv1 b2 kv2) ⌝ }

@@ -13,13 +13,13 @@ pub record Grid : Type 0 where
   pub columns : ℕ  -- m, how many
   pub screened : ℕ → Bool  -- of a layer
   pub across : ℕ → ℕ → ℕ  -- C of layer i between columns j and j+1; j = 0 is the well's, in a screened layer
-  pub down : ℕ → ℕ → ℕ  -- C of column j between layers i and i+1
+  pub down : ℕ → ℕ → ℕ  -- C of column j between layers i and i+1; from layer 1 the value at s = 0 (N6)
   pub storage : ℕ → ℕ → ℕ  -- S of the cell of layer i, column j
   pub wellStorage : ℕ  -- S of the well
   pub thickness : ℕ  -- b_1, mm
   pub area : ℕ → ℕ  -- A_j of column j, mm²
   pub kv₁ : ℕ  -- Kv_1, nm/s
-  pub thickness₂ : ℕ  -- b_2, mm
+  pub b₂ : ℕ  -- b_2, mm
   pub kv₂ : ℕ  -- Kv_2, nm/s
   pub intake : ℕ  -- p, mm
 
@@ -53,7 +53,7 @@ acrossRule zero = Rule.unconfined
 acrossRule (suc i) = Rule.fixed
 
 unfoldable pub downRule : Grid → ℕ → ℕ → Rule
-downRule G zero j = Rule.table (G .area j) (G .kv₁) (G .thickness₂) (G .kv₂)
+downRule G zero j = Rule.table (G .area j) (G .kv₁) (G .b₂) (G .kv₂)
 downRule G (suc i) j = Rule.fixed
 
 -- the face of layer i between columns j and j+1

@@ -15,16 +15,22 @@ use Rattle.network.specs.Network.{Rule, Face, Network, State, isPlace, l
 abbrev pub OnTable : Network → ℕ → Type 0
 OnTable N p = List·Memᴰ p (N .table) ⊎ (N .places ≤ p)
 
--- A network on which steps can be taken: the well is a place, every place stores water, the intake is no deeper than a D may be, only faces within
--- layer 1, or from it to the last column, are unconfined, and a face below the water table begins in layer 1 and has as its C the value at s = 0, where
--- b_2 is above 0.
+-- what is asked of a face by its rule: an unconfined one is within layer 1, or from it to the last column; one between layers 1 and 2 begins in layer 1,
+-- and its C is the value at s = 0, where b_2 is above 0
+abbrev pub OfUnconfined : Network → Face → Type 0
+OfUnconfined N f = f .rule ≡ Rule.unconfined → OnTable N (f .one) × OnTable N (f .two)
+
+abbrev pub OfTable : Network → Face → Type 0
+OfTable N f = (a kv₁ b₂ kv₂ : ℕ) → f .rule ≡ Rule.table a kv₁ b₂ kv₂ → OnTable N (f .one) × (0 < b₂) × (f .conductance ≡ fromTable a kv₁ b₂ kv₂ 0)
+
+-- A network on which steps can be taken: the well is a place, every place stores water, the intake is no deeper than a D may be, and every face is as its
+-- rule asks.
 pub record Proper (N : Network) : Type 0 where
   pub well : 0 < N .places
   pub storages : (p : ℕ) → p < N .places → 0 < storageAt N p
   pub intake : 1000 * N .intake ≤ drawdownLimit
-  pub unconfined : (f : Face) → List·Memᴰ f (N .faces) → f .rule ≡ Rule.unconfined → OnTable N (f .one) × OnTable N (f .two)
-  pub table : (f : Face) → List·Memᴰ f (N .faces) → (a kv₁ b₂ kv₂ : ℕ) → f .rule ≡ Rule.table a kv₁ b₂ kv₂
-      → OnTable N (f .one) × (0 < b₂) × (f .conductance ≡ fromTable a kv₁ b₂ kv₂ 0)
+  pub unconfined : (f : Face) → List·Memᴰ f (N .faces) → OfUnconfined N f
+  pub table : (f : Face) → List·Memᴰ f (N .faces) → OfTable N f
 
 -- A state in its limits: one loss for each place; losses and inflow not negative, adding up to the pumped total; totals and every D within bounds.
 pub record Kept (N : Network) (s : State) : Type 0 where

@@ -1,7 +1,8 @@
 -- A network of places joined by faces, and one explicit step on it: the rules of 'A step' and the refusals 7 to 11 of 01.
 -- Place and face are document 01's own terms ('Geometry to coefficients'): a place is the well or a cell of columns 1 to m−1.
 -- Place 0 is the well. Whatever is not below the number of places is the last column, at constant head: its loss and its drawdown are 0.
--- Units: losses V, totals and water nl; drawdowns D µm; C 10^-12 m²/s; S nl per m; times µs; rates ml/s; lengths mm.
+-- Units: losses V, totals and water nl; drawdowns D and saturated thicknesses s µm; C 10^-12 m²/s; S nl per m; times µs; rates ml/s; lengths mm; areas
+-- mm²; conductivities Kv nm/s.
 use mathlib.Core.Bool.{Bool, true, false, not, _||_}
 use mathlib.Core.List.{List, [], _∷_, map}
 use Prim.Native.Nat.{ℕ, _+_, _*_, _^_}
@@ -17,7 +18,7 @@ use Rattle.geometry.specs.Geometry.{fromTable}
 pub data Rule : Type 0 where
   fixed : Rule  -- C itself
   unconfined : Rule  -- horizontally in layer 1: the mean saturated thickness of both ends
-  table : ℕ → ℕ → ℕ → ℕ → Rule  -- from layer 1, which is end one, to layer 2: the path from the water table; A_j, Kv_1, b_2 and Kv_2
+  table : ℕ → ℕ → ℕ → ℕ → Rule  -- from layer 1, which is end one, to layer 2 (N6): the path from the water table, with A_j, Kv_1, b_2 and Kv_2
 
 -- A face joins two places, or a place and the last column: document 01's term for a pair that a C rule joins, be C zero or not.
 pub record Face : Type 0 where

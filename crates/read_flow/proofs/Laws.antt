@@ -2,7 +2,7 @@
 --     layer-in to next-cell       which ends are joined, from the numbers of a site
 --     slot-in to at-top           slots and C in use, by the kinds of the ends
 --     End                         an end: its V, S and D by slot and by place
---     across-rule to lowers       the face that leads from one end to another; then its water in a step that 7 and 8 allow
+--     across-rule to fits-from       the face that leads from one end to another; then its water in a step that 7 and 8 allow
 use mathlib.Core.Path.{_≡_, refl, sym, ap, ap₂, _∙_}
 use mathlib.Core.Bool.{Bool, true, false, cond, _&&_, _||_, and-false, true≢false}
 use mathlib.Core.Logic.{⊎-elim}
@@ -42,14 +42,14 @@ use Rattle.record.specs.Record.{slot, acrossIn, gridOf, stateOf}
 use Rattle.coefficient_cells.specs.Worked.{InLimits}
 use Rattle.validity.specs.Laws.{Valid, valid-proper, valid-limits, table-fits}
 use Rattle.step_drawdowns.specs.Drawdowns.{depthOf, depthAt}
-use Rattle.step_flows.specs.Flows.{reducedC, loweredC}
+use Rattle.step_flows.specs.Flows.{reducedC, tableC}
 use Rattle.slot_places.specs.Screen.{fixed-below}
 use Rattle.slot_places.specs.Slots.{slot-at, counted, dry, loss-past, loss-cell, depth-column, depth-well}
 use Rattle.readings.specs.declared.Place.{Place}
 use Rattle.readings.specs.declared.Place.the-variants.{Well, Cell}
 use Rattle.readings.specs.Readings.{isLayer, isStored, numberOf, leads, faceFrom}
 use Rattle.readings.specs.Laws.{well-back}
-use Rattle.read_flow.specs.Ends.{inSlots, lossEnd, storageEnd, conductanceFrom, ruleFrom, inUseFrom, InLayer, Lowers}
+use Rattle.read_flow.specs.Ends.{inSlots, lossEnd, storageEnd, conductanceFrom, ruleFrom, inUseFrom, InLayer, TableFits}
 use Rattle.read_flow.specs.Laws.{Led, screen, across, down, face-listed}
 
 -- ---- which ends are joined, from the numbers of a site
@@ -117,8 +117,8 @@ module _ (s : Site) (screen horizontal vertical : List ℕ) (Da Db : ℤ) where
     down-in h u = rw (from, to, at, ne-eqb k i h, ne-eqb i 1 (λ e. absurd (omega arith)))
 
     pub table-in : (k ≡ i → ⊥) → i ≡ 1
-        → loweredC (getD (s .thickness) 0 0) (getD (s .kv) 0 0) (getD (s .thickness) 1 0) (getD (s .kv) 1 0) (areaAt s j) Da ≡ inUseFrom s screen horizontal vertical a b Da Db
-    unfolding inUseFrom inUseBy ruleFrom loweredC
+        → tableC (areaAt s j) (getD (s .thickness) 0 0) (getD (s .kv) 0 0) (getD (s .thickness) 1 0) (getD (s .kv) 1 0) Da ≡ inUseFrom s screen horizontal vertical a b Da Db
+    unfolding inUseFrom inUseBy ruleFrom tableC
     table-in h e = rw (from, to, ne-eqb k i h, eq-eqb i 1 e)
 
     pub across-in : k ≡ i → (i ≡ 1 → ⊥) → pos (getD horizontal n 0) ≡ inUseFrom s screen horizontal vertical a b Da Db
@@ -236,7 +236,7 @@ module _ (r : Record) (v : Valid r) where
   conductance-is (screen k₁ k₂ s e) = refl
   conductance-is (across {i} {j} {k} i₁ i₂ j₁ j₂ e f) = rw (eq-eqb k i e) (stored j j₁)
     where
-      stored : (j : ℕ) → 1 ≤ j → getD (r .horizontal) (slot (i - 1) j) 0 ≡ acrossIn r (i - 1) j
+      stored : (j : ℕ) → 1 ≤ j → getD (r .horizontal) (slot (i - 1) j) 0 ≡ acrossIn (r .screen) (r .horizontal) (i - 1) j
       stored zero h = absurd (omega arith)
       stored (suc j) h = refl
   conductance-is (down {i} {j} {k} i₁ i₂ j₁ j₂ e f) = rw (ne-eqb k i (λ q. absurd (omega arith)))
@@ -254,11 +254,11 @@ module _ (r : Record) (v : Valid r) where
   top-end (cell i k i₁ i₂ k₁ k₂) j q = let one : i ≡ 1 = cc in rw one (on-table G k k₁)
 
   -- and C at s = 0 of the column that it is in fits a word, where a face leads from it
-  lowers : {a b : Place} → Led G a b → Lowers (r .site) a
+  fits-from : {a b : Place} → Led G a b → TableFits (r .site) a
   unfolding gridOf
-  lowers (screen k₁ k₂ s e) j q = let z : _≡_ {A = ℕ} 0 1 = cc in absurd (omega arith)
-  lowers (across {j = m} i₁ i₂ j₁ j₂ e f) j q = let here : m ≡ j = cc in rw (← here) (j₂, table-fits r v m j₁ j₂)
-  lowers (down {j = m} i₁ i₂ j₁ j₂ e f) j q = let here : m ≡ j = cc in rw (← here) (j₂, table-fits r v m j₁ j₂)
+  fits-from (screen k₁ k₂ s e) j q = let z : _≡_ {A = ℕ} 0 1 = cc in absurd (omega arith)
+  fits-from (across {j = m} i₁ i₂ j₁ j₂ e f) j q = let here : m ≡ j = cc in rw (← here) (j₂, table-fits r v m j₁ j₂)
+  fits-from (down {j = m} i₁ i₂ j₁ j₂ e f) j q = let here : m ≡ j = cc in rw (← here) (j₂, table-fits r v m j₁ j₂)
 
   pub joined-ends : {a b : Place} → Led G a b → End G a × End G b
   unfolding gridOf
@@ -287,8 +287,8 @@ module _ (r : Record) (v : Valid r) where
       unfolding networkOf gridOf
       end-within {e} h q j at = ≤ℤ-pos (rw q (in-layer (numberOf G e) (top-end h j at)))
 
-      pub in-use-asks : (InLimits (r .site) × (inSlots a ≡ true) × (inSlots b ≡ true) × InLayer (r .site) a here × InLayer (r .site) b next) × Lowers (r .site) a
-      in-use-asks = ((valid-limits r v, in-slots (joined-ends l .0), in-slots (joined-ends l .1), end-within (joined-ends l .0) eh, end-within (joined-ends l .1) en), lowers l)
+      pub in-use-asks : (InLimits (r .site) × (inSlots a ≡ true) × (inSlots b ≡ true) × InLayer (r .site) a here × InLayer (r .site) b next) × TableFits (r .site) a
+      in-use-asks = ((valid-limits r v, in-slots (joined-ends l .0), in-slots (joined-ends l .1), end-within (joined-ends l .0) eh, end-within (joined-ends l .1) en), fits-from l)
 
       module _ (c : ℕ) (ec : pos c ≡ inUseFrom (r .site) (r .screen) (r .horizontal) (r .vertical) a b (pos here) (pos next)) where
         in-use-is : pos c ≡ inUse N f (pos here) (pos next)

@@ -29,13 +29,13 @@ unfoldable pub storageEnd : List ℕ → ℕ → Place → ℕ
 storageEnd ss s Well = s
 storageEnd ss s (Cell i j) = getD ss (slot (i - 1) j) 0
 
--- C, unreduced, of the face that leads from one end to the other: the well's, the one toward the next column or the one toward the layer below
+-- C, unreduced (between layers 1 and 2 at s = 0, N6), of the face that leads from one end to the other: the well's, the one toward the next column or the one toward the layer below
 unfoldable pub conductanceFrom : List ℕ → List ℕ → List ℕ → Place → Place → ℕ
 conductanceFrom screen horizontal vertical a Well = 0
 conductanceFrom screen horizontal vertical Well (Cell k l) = getD screen (k - 1) 0
 conductanceFrom screen horizontal vertical (Cell i j) (Cell k l) = getD (cond (eqb k i) horizontal vertical) (slot (i - 1) j) 0
 
--- what C in use of that face goes by: within layer 1 its thickness, from layer 1 to layer 2 the water table
+-- what C in use of that face goes by: within layer 1 the mean saturated thickness of both ends, from layer 1 to layer 2 the path from the water table
 unfoldable pub ruleFrom : Site → Place → Place → Rule
 ruleFrom s Well b = Rule.fixed
 ruleFrom s (Cell i j) Well = Rule.fixed
@@ -49,8 +49,8 @@ inUseFrom s screen horizontal vertical a b Da Db = inUseBy (getD (s .thickness) 
 abbrev pub InLayer : Site → Place → ℕ → Type 0
 InLayer s e D = (j : ℕ) → e ≡ Cell 1 j → D ≤ 1000 * getD (s .thickness) 0 0
 
-abbrev pub Lowers : Site → Place → Type 0
-Lowers s e = (j : ℕ) → e ≡ Cell 1 j → (j < s .columns) × (downOf s 0 j < 2 ^ 64)
+abbrev pub TableFits : Site → Place → Type 0
+TableFits s e = (j : ℕ) → e ≡ Cell 1 j → (j < s .columns) × (downOf s 0 j < 2 ^ 64)
 
 -- the number with the other sign, or the same refusal
 unfoldable pub opposite : Amount → Amount

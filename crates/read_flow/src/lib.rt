@@ -21,9 +21,9 @@ ghost use Rattle.coefficient_cells.specs.Cells.{downOf};
 ghost use Rattle.coefficient_cells.specs.Worked.{InLimits};
 ghost use Rattle.validity.specs.Validity.{valid};
 ghost use Rattle.step_drawdowns.specs.Drawdowns.{depthOf};
-ghost use Rattle.step_flows.specs.Flows.{loweredC};
+ghost use Rattle.step_flows.specs.Flows.{tableC};
 ghost use Rattle.readings.specs.Readings.{leads, faceFrom, flowOf};
-ghost use Rattle.read_flow.specs.Ends.{inSlots, lossEnd, storageEnd, inUseFrom, InLayer, Lowers, opposite};
+ghost use Rattle.read_flow.specs.Ends.{inSlots, lossEnd, storageEnd, inUseFrom, InLayer, TableFits, opposite};
 
 // Whether a C rule joins one end to the other, in this order: the well to column 1 of a screened layer, a stored cell to the next column or to
 // the layer below.
@@ -67,12 +67,12 @@ fn drawdown_at<'a>(
 }
 
 // C in use between layers 1 and 2 of column j, from D of its cell in layer 1.
-fn lowered_at(site: Site, j: u64, here: u64) -> u64
+fn column_at_table(site: Site, j: u64, here: u64) -> u64
     requires { ⌜ InLimits site × (j < site .columns) × (here ≤ 1000 * getD (site .thickness) 0 0) × (downOf site 0 j < 2 ^ 64) ⌝ }
-    ensures { λ r. ⌜ pos r ≡ loweredC (getD (site .thickness) 0 0) (getD (site .kv) 0 0) (getD (site .thickness) 1 0) (getD (site .kv) 1 0) (areaAt site j) (pos here) ⌝ }
+    ensures { λ r. ⌜ pos r ≡ tableC (areaAt site j) (getD (site .thickness) 0 0) (getD (site .kv) 0 0) (getD (site .thickness) 1 0) (getD (site .kv) 1 0) (pos here) ⌝ }
 {
     let areas = areas_of(site);
-    step_flows::lowered(
+    step_flows::at_table(
         areas[j as usize],
         site.thickness[0],
         site.kv[0],
@@ -95,7 +95,7 @@ fn in_use<'a>(
     next: u64,
 ) -> u64
     requires { ⌜ InLimits site × (inSlots from ≡ true) × (inSlots to ≡ true) × InLayer site from here × InLayer site to next ⌝ }
-    requires { ⌜ Lowers site from ⌝ }
+    requires { ⌜ TableFits site from ⌝ }
     ensures { λ r. ⌜ pos r ≡ inUseFrom site (now (screen .entry)) (now (horizontal .entry)) (now (vertical .entry)) from to (pos here) (pos next) ⌝ }
 {
     let Place::Cell(k, _) = to else {
@@ -109,7 +109,7 @@ fn in_use<'a>(
         if 1 < i {
             return vertical[first];
         }
-        return lowered_at(site, j, here);
+        return column_at_table(site, j, here);
     }
     if i != 1 {
         return horizontal[first];

@@ -79,23 +79,23 @@ zeroRecord = record {
 
 -- ---- the grid and the state that a record holds
 -- C of layer i between columns j and j+1
-unfoldable pub acrossIn : Record → ℕ → ℕ → ℕ
-acrossIn r i zero = getD (r .screen) i 0
-acrossIn r i (suc j) = getD (r .horizontal) (slot i (suc j)) 0
+unfoldable pub acrossIn : List ℕ → List ℕ → ℕ → ℕ → ℕ
+acrossIn screen horizontal i zero = getD screen i 0
+acrossIn screen horizontal i (suc j) = getD horizontal (slot i (suc j)) 0
 
 unfoldable pub gridOf : Record → Grid
 gridOf r = record {
   layers = r .site .layers;
   columns = r .site .columns;
   screened = isScreened (r .site .screened);
-  across = acrossIn r;
+  across = acrossIn (r .screen) (r .horizontal);
   down = λ i j. getD (r .vertical) (slot i j) 0;
   storage = λ i j. getD (r .storages) (slot i j) 0;
   wellStorage = r .«well_storage»;
   thickness = getD (r .site .thickness) 0 0;
   area = areaAt (r .site);
   kv₁ = getD (r .site .kv) 0 0;
-  thickness₂ = getD (r .site .thickness) 1 0;
+  b₂ = getD (r .site .thickness) 1 0;
   kv₂ = getD (r .site .kv) 1 0;
   intake = r .site .intake;
 }

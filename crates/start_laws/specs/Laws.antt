@@ -38,7 +38,7 @@ use Rattle.coefficient_slots.specs.Slots.{usedSlot, coefficientsHold}
 use Rattle.coefficient_slots.specs.Laws.{Coefficients, coefficients-hold}
 use Rattle.validity_numbers.specs.Numbers.{zeroFrom, siteUnused}
 use Rattle.validity.specs.Validity.{lossesUnused, valid}
-use Rattle.validity.specs.Laws.{valid-record, record-valid}
+use Rattle.validity.specs.Laws.{TableKept, valid-record, record-valid}
 use Rattle.coefficient_cells.specs.Cells.{acrossOf, downOf}
 use Rattle.coefficients.specs.Coefficients.{scenarioGrid, startRecord}
 use Rattle.coefficients.specs.Laws.{slotted, start-slotted, slotted-unused, screen-at, across-at, down-at, storage-at, start-network, start-state}
@@ -84,7 +84,8 @@ start-coefficients s counts e =
     })
 
 -- ---- the C kept between layers 1 and 2 is the scenario's
-start-table : (s : Site) → countsHold s ≡ true → (j : ℕ) → 1 ≤ j → j < s .columns → gridOf (startRecord s) .down 0 j ≡ downOf s 0 j
+start-table : (s : Site) → countsHold s ≡ true → TableKept (startRecord s)
+unfolding startRecord
 start-table s counts j one k =
     let known = site.counts-hold s counts in
     rw (start-slotted s) (down-at (λ used n. cond used n 0) s known 0 j (omega (arith, known .layers-least)) one k)

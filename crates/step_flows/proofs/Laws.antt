@@ -14,7 +14,7 @@ use Rattle.limits.specs.Limits.{totalLimit, drawdownLimit, lengthLimit}
 use Rattle.geometry.specs.Geometry.{fromTable}
 use Rattle.network.specs.Network.{inUseBy, saturated, atTable, water}
 use Rattle.network.specs.laws.Water.{reduced, size, runs-ahead, runs-back}
-use Rattle.step_flows.specs.Flows.{reducedC, loweredC, flowAt, tableFlowAt, downFlowAt}
+use Rattle.step_flows.specs.Flows.{reducedC, tableC, flowAt, tableFlowAt, downFlowAt}
 
 -- ---- C in use in layer 1
 module _ (b₁ c here next : ℕ) (h : here ≤ 1000 * b₁) (k : next ≤ 1000 * b₁) where
@@ -30,10 +30,10 @@ module _ (b₁ c here next : ℕ) (h : here ≤ 1000 * b₁) (k : next ≤ 1000 
   reduced-le = rw reduced-is at at-most
 
 -- ---- C in use between layers 1 and 2
-module _ (b₁ kv₁ b₂ kv₂ a here : ℕ) (h : here ≤ 1000 * b₁) where
-  pub lowered-is : loweredC b₁ kv₁ b₂ kv₂ a (pos here) ≡ pos (fromTable a kv₁ b₂ kv₂ (1000 * b₁ - here))
-  unfolding loweredC inUseBy saturated atTable
-  lowered-is = rw (diff-le (1000 * b₁) here h)
+module _ (a b₁ kv₁ b₂ kv₂ here : ℕ) (h : here ≤ 1000 * b₁) where
+  pub table-is : tableC a b₁ kv₁ b₂ kv₂ (pos here) ≡ pos (fromTable a kv₁ b₂ kv₂ (1000 * b₁ - here))
+  unfolding tableC inUseBy saturated atTable
+  table-is = rw (diff-le (1000 * b₁) here h)
 
 -- ---- the rows of the water to the layer below
 

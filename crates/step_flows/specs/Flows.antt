@@ -17,8 +17,8 @@ unfoldable pub reducedAt : ℕ → List ℕ → List ℕ → ℕ → ℤ
 reducedAt b₁ cs ds k = reducedC b₁ (getD cs k 0) (pos (getD ds k 0)) (pos (getD ds (k + 1) 0))
 
 -- C in use of a face between layers 1 and 2 over area a, where layer 1 is at drawdown D: the network's rule, which asks for no C and for no other D
-unfoldable pub loweredC : ℕ → ℕ → ℕ → ℕ → ℕ → ℤ → ℤ
-loweredC b₁ kv₁ b₂ kv₂ a D = inUseBy b₁ 0 (Rule.table a kv₁ b₂ kv₂) D (pos 0)
+unfoldable pub tableC : ℕ → ℕ → ℕ → ℕ → ℕ → ℤ → ℤ
+tableC a b₁ kv₁ b₂ kv₂ D = inUseBy b₁ 0 (Rule.table a kv₁ b₂ kv₂) D (pos 0)
 
 -- what is asked of the numbers of layers 1 and 2 and of the areas of n columns: their limits, and that C at s = 0 fits a word
 pub record Tabled (b₁ kv₁ b₂ kv₂ : ℕ) (areas : List ℕ) (n : ℕ) : Type 0 where
@@ -36,7 +36,7 @@ flowAt cs ds ahead dt k = water (pos (getD cs k 0)) (pos (getD ds k 0)) (pos (ge
 
 -- the water from slot k of layer 1 to layer 2
 unfoldable pub tableFlowAt : ℕ → ℕ → ℕ → ℕ → List ℕ → List ℕ → ℕ → ℕ → ℤ
-tableFlowAt b₁ kv₁ b₂ kv₂ areas ds dt k = water (loweredC b₁ kv₁ b₂ kv₂ (getD areas (k + 1) 0) (pos (getD ds k 0))) (pos (getD ds k 0)) (pos (getD ds (k + 50) 0)) dt
+tableFlowAt b₁ kv₁ b₂ kv₂ areas ds dt k = water (tableC (getD areas (k + 1) 0) b₁ kv₁ b₂ kv₂ (pos (getD ds k 0))) (pos (getD ds k 0)) (pos (getD ds (k + 50) 0)) dt
 
 -- the water from slot k to the layer below, in so many columns: the slots of layer 1 come first
 unfoldable pub downFlowAt : ℕ → ℕ → ℕ → ℕ → List ℕ → List ℕ → List ℕ → ℕ → ℕ → ℕ → ℤ

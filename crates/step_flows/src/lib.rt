@@ -1,5 +1,5 @@
 // C in use and the water of the faces of a step, from the drawdowns at its start: arrays by slot, lent and filled.
-// C is in 10^-12 m²/s, D in µm, V and water in nl, times in µs.
+// C is in 10^-12 m²/s, D in µm, V and water in nl, times in µs, thicknesses in mm, areas in mm², Kv in nm/s.
 ghost use mathlib.Core.Path.{_≡_};
 ghost use mathlib.Core.List.{map};
 ghost use Prim.Native.Nat.{ℕ, _+_, _*_, _≤_, _<_, _^_};
@@ -10,7 +10,7 @@ ghost use Rattle.laws.specs.Span.{span, spans};
 ghost use Rattle.limits.specs.Limits.{lengthLimit, totalLimit, drawdownLimit};
 ghost use Rattle.geometry.specs.Geometry.{fromTable};
 ghost use Rattle.network.specs.Network.{water};
-ghost use Rattle.step_flows.specs.Flows.{reducedC, reducedAt, loweredC, Tabled, flowAt, tableFlowAt, downFlowAt};
+ghost use Rattle.step_flows.specs.Flows.{reducedC, reducedAt, tableC, Tabled, flowAt, tableFlowAt, downFlowAt};
 use geometry::from_table;
 use limits::CELL_PLACES;
 use limits::COLUMN_PLACES;
@@ -47,10 +47,10 @@ pub fn in_use<'a>(
 }
 
 // C in use of a face between layers 1 and 2 over an area, where layer 1 is at drawdown `here`. It is at most the value at s = 0, and so over no word.
-pub fn lowered(a: u64, thickness: u64, kv1: u64, b2: u64, kv2: u64, here: u64) -> u64
+pub fn at_table(a: u64, thickness: u64, kv1: u64, b2: u64, kv2: u64, here: u64) -> u64
     requires { ⌜ (a ≤ 2 ^ 44) × (thickness ≤ 1000000) × (kv1 ≤ 100000000) × (0 < b2) × (b2 ≤ 1000000) × (kv2 ≤ 100000000) ⌝ }
     requires { ⌜ (here ≤ 1000 * thickness) × (fromTable a kv1 b2 kv2 0 < 2 ^ 64) ⌝ }
-    ensures { λ r. ⌜ pos r ≡ loweredC thickness kv1 b2 kv2 a (pos here) ⌝ }
+    ensures { λ r. ⌜ pos r ≡ tableC a thickness kv1 b2 kv2 (pos here) ⌝ }
 {
     match from_table(a, kv1, b2, kv2, 1000 * thickness - here) {
         Quotient::Word(c) => c,
@@ -114,7 +114,7 @@ fn table_row<'a>(
     while k < stored {
         let here = depths[k];
         let below = depths[k + COLUMN_PLACES];
-        let c = lowered(areas[k + 1], thickness, kv1, b2, kv2, here);
+        let c = at_table(areas[k + 1], thickness, kv1, b2, kv2, here);
         down[k] = crossing(c, here, below, dt);
         k += 1;
     }

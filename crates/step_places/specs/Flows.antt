@@ -20,7 +20,7 @@ use Rattle.record.specs.declared.Record.{Record}
 use Rattle.record.specs.Record.{slot, acrossIn, gridOf, stateOf}
 use Rattle.coefficient_cells.specs.Laws.{areas-of}
 use Rattle.validity.specs.Laws.{Valid, valid-limits}
-use Rattle.step_flows.specs.Flows.{reducedC, loweredC}
+use Rattle.step_flows.specs.Flows.{reducedC, tableC}
 use Rattle.step_losses.specs.Losses.{left, upper}
 use Rattle.step_sweep.specs.Worked.{Lent, depth, wellDepth, conductance, lowerConductance, right, lower, wellFlow, waterOf, toLast}
 use Rattle.slot_places.specs.Screen.{water-none, screen-water}
@@ -90,15 +90,15 @@ module _ (r : Record) (v : Valid r) (rate dt : ℕ) where
       by-layer (suc i) c = rw (ne-eqb (suc i) 0 (λ e. absurd (omega arith)))
 
   in-use-lower : (i j : ℕ) (Da Db : ℤ) → suc j < r .site .columns
-      → cond (ltb (50 * i + j + 1) (r .site .columns)) (loweredC b₁ (a .kv₁) (a .b₂) (a .kv₂) (getD (a .areas) (50 * i + j + 1) 0) Da) (pos (getD (r .vertical) (50 * i + j) 0))
+      → cond (ltb (50 * i + j + 1) (r .site .columns)) (tableC (getD (a .areas) (50 * i + j + 1) 0) b₁ (a .kv₁) (a .b₂) (a .kv₂) Da) (pos (getD (r .vertical) (50 * i + j) 0))
       ≡ inUse N (downFace (gridOf r) i (suc j)) Da Db
-  unfolding inUse inUseBy loweredC networkOf gridOf downFace downRule
+  unfolding inUse inUseBy tableC networkOf gridOf downFace downRule
   in-use-lower i j Da Db hj =
-      ap (λ t. cond t (loweredC b₁ (a .kv₁) (a .b₂) (a .kv₂) (getD (a .areas) (50 * i + j + 1) 0) Da) (pos (getD (r .vertical) (50 * i + j) 0))) (first-row i j hj)
-      ∙ ap (λ n. cond (eqb i 0) (loweredC b₁ (a .kv₁) (a .b₂) (a .kv₂) (getD (a .areas) (50 * i + j + 1) 0) Da) (pos (getD (r .vertical) n 0))) (sym (slot-at i j))
+      ap (λ t. cond t (tableC (getD (a .areas) (50 * i + j + 1) 0) b₁ (a .kv₁) (a .b₂) (a .kv₂) Da) (pos (getD (r .vertical) (50 * i + j) 0))) (first-row i j hj)
+      ∙ ap (λ n. cond (eqb i 0) (tableC (getD (a .areas) (50 * i + j + 1) 0) b₁ (a .kv₁) (a .b₂) (a .kv₂) Da) (pos (getD (r .vertical) n 0))) (sym (slot-at i j))
       ∙ by-layer i (getD (r .vertical) (slot i (suc j)) 0)
     where
-      by-layer : (i c : ℕ) → cond (eqb i 0) (loweredC b₁ (a .kv₁) (a .b₂) (a .kv₂) (getD (a .areas) (50 * i + j + 1) 0) Da) (pos c) ≡ inUseBy b₁ c (downRule (gridOf r) i (suc j)) Da Db
+      by-layer : (i c : ℕ) → cond (eqb i 0) (tableC (getD (a .areas) (50 * i + j + 1) 0) b₁ (a .kv₁) (a .b₂) (a .kv₂) Da) (pos c) ≡ inUseBy b₁ c (downRule (gridOf r) i (suc j)) Da Db
       by-layer zero c =
           let column : 50 * 0 + j + 1 ≡ suc j = omega arith in
           rw (column, areas-of (r .site) (valid-limits r v) .at (suc j) hj)

@@ -3,9 +3,9 @@
 --     same-grid        a record with another state has the same grid, and so the same network (same-network)
 --     same-state       and that state, where the state has one loss for each place
 --     step-valid       so 14 does not refuse the record that a step taken gives
-use mathlib.Core.Path.{_≡_, refl, sym, ap, ap₂, fun-ext, _∙_}
+use mathlib.Core.Path.{_≡_, refl, sym, ap, ap₂, _∙_}
 use mathlib.Core.Bool.{Bool, true, false, cond, not, _||_}
-use Prim.Native.Nat.{ℕ, zero, suc, _+_, _*_, _-_, _/_, _%_, _<_}
+use Prim.Native.Nat.{ℕ, suc, _+_, _*_, _-_, _/_, _%_, _<_}
 use native.Mathlib.Nat.{zero-add}
 use native.Mathlib.Omega.{arith}
 use lib.IntN.{ℤ, pos}
@@ -15,16 +15,14 @@ use Rattle.laws.specs.Refusal.{passed}
 use Rattle.laws.specs.Rows.{all-from}
 use Rattle.laws.specs.Sums.{getD-map-range}
 use Rattle.network.specs.Network.{State, lossAt, moved, stepTests, refusal}
-use Rattle.network.specs.Grid.{Grid, place, placeCount, networkOf, onePerPlace}
+use Rattle.network.specs.Grid.{place, placeCount, networkOf, onePerPlace}
 use Rattle.network.specs.Kept.{Kept}
 use Rattle.network.specs.laws.Places.{one-per-place}
 use Rattle.network.specs.laws.Preserve.{kept-moved}
-use Rattle.site.specs.Columns.{areaAt}
 use Rattle.site.specs.Laws.{counts-hold}
 use Rattle.site.specs.Limited.{Counts}
-use Rattle.site.specs.Site.{isScreened}
 use Rattle.record.specs.declared.Record.{Record}
-use Rattle.record.specs.Record.{slot, slots, isCell, acrossIn, gridOf, stateOf, outcomeOf}
+use Rattle.record.specs.Record.{slot, slots, isCell, gridOf, stateOf, outcomeOf}
 use Rattle.record.specs.Laws.{outcome-of, kept-of}
 use Rattle.coefficient_slots.specs.Slots.{usedSlot, coefficientsUnused}
 use Rattle.validity.specs.Validity.{isZeroℤ, lossesUnused, valid}
@@ -41,27 +39,9 @@ module _ (r : Record) (rate dt : ℕ) where
   step-kept z = kept-of (stepRefusal r rate dt) r _ z
 
 module _ (r : Record) (s : State) where
-  same-across : acrossIn (withState r s) ≡ acrossIn r
-  unfolding withState acrossIn
-  same-across = fun-ext (λ i. fun-ext (λ j. elim j [ zero ↦ refl | suc k ↦ refl ]))
-
   pub same-grid : gridOf (withState r s) ≡ gridOf r
   unfolding gridOf withState
-  same-grid = ap {B = Grid} (λ f. record {
-    layers = r .site .layers;
-    columns = r .site .columns;
-    screened = isScreened (r .site .screened);
-    across = f;
-    down = λ i j. getD (r .vertical) (slot i j) 0;
-    storage = λ i j. getD (r .storages) (slot i j) 0;
-    wellStorage = r .«well_storage»;
-    thickness = getD (r .site .thickness) 0 0;
-    area = areaAt (r .site);
-    kv₁ = getD (r .site .kv) 0 0;
-    thickness₂ = getD (r .site .thickness) 1 0;
-    kv₂ = getD (r .site .kv) 1 0;
-    intake = r .site .intake;
-  }) same-across
+  same-grid = refl
 
   pub same-network : networkOf (gridOf (withState r s)) ≡ networkOf (gridOf r)
   same-network = ap networkOf same-grid

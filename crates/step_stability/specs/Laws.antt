@@ -103,11 +103,11 @@ module _ (r : Record) (counts : countsHold (r .site) ≡ true) (unused : coeffic
         go zero e = rw (lt-ltb k 50 (omega (arith, limits .columns-most)))
         go (suc a) e = rw (lt-ltb 0 (suc a) (omega arith), le-ltb k 50 (omega arith)) (ap (λ n. getD (r .vertical) n 0) (omega arith))
 
-    inward-c : ifℕ (joined (gridOf r) i j) (acrossIn r i j) ≡ inwardC (r .screen) (r .horizontal) k
+    inward-c : ifℕ (joined (gridOf r) i j) (acrossIn (r .screen) (r .horizontal) i j) ≡ inwardC (r .screen) (r .horizontal) k
     unfolding inwardC ifℕ joined acrossIn gridOf slot
     inward-c = go j at column
       where
-        go : (j : ℕ) → k ≡ 50 * i + j → k % 50 ≡ j → ifℕ (joined (gridOf r) i j) (acrossIn r i j) ≡ inwardC (r .screen) (r .horizontal) k
+        go : (j : ℕ) → k ≡ 50 * i + j → k % 50 ≡ j → ifℕ (joined (gridOf r) i j) (acrossIn (r .screen) (r .horizontal) i j) ≡ inwardC (r .screen) (r .horizontal) k
         go zero e q = rw (eq-eqb (k % 50) 0 q, layer) (screened-c i hi)
         go (suc b) e q = rw (ne-eqb (k % 50) 0 (omega arith)) (ap (λ n. getD (r .horizontal) n 0) (omega arith))
 

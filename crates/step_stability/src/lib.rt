@@ -38,7 +38,7 @@ fn upper(vertical: &[u64; CELL_PLACES], k: usize) -> u64
     vertical[k - COLUMN_PLACES]
 }
 
-// The sum of C of the faces of the cell in slot k, unreduced: outward, inward, with the layer below and with the layer above.
+// The sum of C of the faces of the cell in slot k, unreduced (between layers 1 and 2 at s = 0, N6): outward, inward, with the layer below and with the layer above.
 fn cell_sum<'a>(
     screen: &'a [u64; LAYER_PLACES],
     horizontal: &'a [u64; CELL_PLACES],

@@ -15,7 +15,7 @@ use Rattle.laws.specs.Sums.{Room}
 use Rattle.limits.specs.Limits.{rateLimit, lengthLimit, totalLimit, drawdownLimit}
 use Rattle.network.specs.Network.{water}
 use Rattle.step_drawdowns.specs.Drawdowns.{depthOf, depthAt}
-use Rattle.step_flows.specs.Flows.{reducedC, loweredC, Tabled}
+use Rattle.step_flows.specs.Flows.{reducedC, tableC, Tabled}
 use Rattle.step_losses.specs.declared.Swept.{Swept}
 use Rattle.step_losses.specs.Losses.{Water, left, upper, changed}
 use Rattle.step_sweep.specs.declared.Terms.{Terms}
@@ -31,7 +31,7 @@ pub record Lent : Type 0 where
   pub areas : List ℕ  -- A_j, mm², by column
   pub screen : List ℕ  -- C between the well and column 1, by layer
   pub horizontal : List ℕ  -- C between the cell and the next column
-  pub vertical : List ℕ  -- C between the cell and the layer below
+  pub vertical : List ℕ  -- C between the cell and the layer below; that of layer 1 is not in use
   pub storages : List ℕ  -- S of the cell
   pub losses : List ℤ  -- V of the cell
   pub wellStorage : ℕ  -- S of the well
@@ -86,7 +86,7 @@ conductance a k =
 unfoldable pub lowerConductance : Lent → ℕ → ℤ
 lowerConductance a k =
     cond (ltb (k + 1) (a .columns))
-    (loweredC (a .thickness) (a .kv₁) (a .b₂) (a .kv₂) (getD (a .areas) (k + 1) 0) (depth a k))
+    (tableC (getD (a .areas) (k + 1) 0) (a .thickness) (a .kv₁) (a .b₂) (a .kv₂) (depth a k))
     (pos (getD (a .vertical) k 0))
 
 -- ---- the water of each face
@@ -162,7 +162,7 @@ pub record Workable (a : Lent) : Type 0 where
   -- and nothing is lost where there is no cell
   pub unused : (k : ℕ) → k < 1000 → Unused (a .layers) (a .columns) k → getD (a .losses) k (pos 0) ≡ pos 0
 
--- ---- what is asked of the arrays worked in, and holds of them again: a slot that no step fills holds 0, and C in use is C but in layer 1
+-- ---- what is asked of the arrays worked in, and holds of them again: a slot that no step fills holds 0, and horizontal C in use is C but in layer 1
 
 pub record Scratch (layers columns : ℕ) (horizontal ds cs : List ℕ) (ws vs : List ℤ) : Type 0 where
   -- each list is whole, which a lent array does not say of itself

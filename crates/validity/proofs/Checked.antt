@@ -27,13 +27,12 @@ use Rattle.record.specs.Record.{slot, isCell, gridOf, stateOf}
 use Rattle.coefficient_slots.specs.Slots.{coefficientsHold, coefficientsUnused, usedSlot}
 use Rattle.coefficient_slots.specs.Held.{inside, slotHolds, arrayHolds, screenArrayHolds, slotsHold}
 use Rattle.coefficient_slots.specs.Laws.{coefficients-hold, hold-coefficients, slot-below, slots-coefficients, used-held, held-from, used-slot, by-slot}
-use Rattle.coefficient_cells.specs.Cells.{downOf}
 use Rattle.validity_numbers.specs.Numbers.{siteHolds, siteUnused}
 use Rattle.validity_table.specs.Table.{tableKept}
 use Rattle.validity_totals.specs.Totals.{lossSlotHolds, lossSlotsHold, lossSum, totalsAgree}
 use Rattle.validity_totals.specs.Laws.{Totals, slot-natural, totals-agree}
 use Rattle.validity_drawdowns.specs.Drawdowns.{deeper, Stored, depthSlotHolds, depthSlotsHold}
-use Rattle.validity.specs.Laws.{Valid, valid-record, record-valid, at-least-0, not-below-0}
+use Rattle.validity.specs.Laws.{TableKept, Valid, valid-record, record-valid, at-least-0, not-below-0}
 use Rattle.validity.specs.Validity.{lossesUnused, isZeroℤ, valid}
 use Rattle.validity.proofs.Losses.{loss-well, loss-cell, well-depth, cell-depth, loss-in}
 
@@ -273,15 +272,12 @@ module _ (r : Record) where
   unfolding slot
   slot-of-column k = omega arith
 
-  abbrev OfTable : ℕ → Type 0
-  OfTable j = gridOf r .down 0 j ≡ downOf (r .site) 0 j
-
-  table-forth : tablePasses ≡ true → (j : ℕ) → 1 ≤ j → j < r .site .columns → OfTable j
+  table-forth : tablePasses ≡ true → TableKept r
   unfolding tableKept gridOf
   table-forth e zero one k = absurd (omega arith)
   table-forth e (suc n) one k = rw (slot-of-column n) (eqb-true _ _ (all-at _ (r .site .columns - 1) n e (omega arith)))
 
-  table-back : ((j : ℕ) → 1 ≤ j → j < r .site .columns → OfTable j) → tablePasses ≡ true
+  table-back : TableKept r → tablePasses ≡ true
   unfolding tableKept gridOf
   table-back h = all-from _ (r .site .columns - 1) (λ n k. eq-eqb _ _ (rw (slot-of-column n) at (h (suc n) (omega arith) (omega arith))))
 

@@ -104,6 +104,10 @@ module _ (N : Network) (s : State) (kept : Kept N s) where
       (all-from _ (N .places) (λ p h. holds _ (kept .depths p h .le)))
 
 -- ---- a record that 14 lets pass
+-- its C between layers 1 and 2, column by column
+abbrev pub TableKept : Record → Type 0
+TableKept r = (j : ℕ) → 1 ≤ j → j < r .site .columns → gridOf r .down 0 j ≡ downOf (r .site) 0 j
+
 pub record Valid (r : Record) : Type 0 where
   pub counts : countsHold (r .site) ≡ true
   pub numbers : numbersHold (r .site) ≡ true
@@ -114,7 +118,7 @@ pub record Valid (r : Record) : Type 0 where
   pub lossesUnused : lossesUnused r ≡ true
   pub coefficients : Coefficients (gridOf r)
   pub wellStorage : r .«well_storage» ≡ wellStorage (r .site .«water_area»)
-  pub table : (j : ℕ) → 1 ≤ j → j < r .site .columns → gridOf r .down 0 j ≡ downOf (r .site) 0 j
+  pub table : TableKept r
   pub kept : Kept (networkOf (gridOf r)) (stateOf r)
 
 module _ (r : Record) where
@@ -122,17 +126,13 @@ module _ (r : Record) where
   unfolding stateOf networkOf
   losses-listed = length-one (gridOf r) _ _
 
-  -- the test of C between layers 1 and 2, column by column
-  abbrev OfTable : Type 0
-  OfTable = (j : ℕ) → 1 ≤ j → j < r .site .columns → gridOf r .down 0 j ≡ downOf (r .site) 0 j
-
-  table-from : tableHolds r ≡ true → OfTable
+  table-columns : tableHolds r ≡ true → TableKept r
   unfolding tableHolds gridOf
-  table-from e j one k = eqb-true _ _ (columns-at (gridOf r) _ j e one k)
+  table-columns e j one k = eqb-true _ _ (columns-at (gridOf r) _ j e one k)
 
-  from-table : OfTable → tableHolds r ≡ true
+  columns-table : TableKept r → tableHolds r ≡ true
   unfolding tableHolds gridOf
-  from-table h = columns-from (gridOf r) _ (λ j one k. eq-eqb _ _ (h j one k))
+  columns-table h = columns-from (gridOf r) _ (λ j one k. eq-eqb _ _ (h j one k))
 
   pub valid-record : valid r ≡ true → Valid r
   unfolding valid siteHolds
@@ -155,7 +155,7 @@ module _ (r : Record) where
         lossesUnused = zeros .3;
         coefficients = coefficients-hold (gridOf r) (stored .1);
         wellStorage = eqb-true _ _ (stored .2);
-        table = table-from (last .1);
+        table = table-columns (last .1);
         kept = kept-from (networkOf (gridOf r)) (stateOf r) losses-listed (last .2) (last .3);
       }
 
@@ -167,7 +167,7 @@ module _ (r : Record) where
       (v .siteUnused)) (v .coefficientsUnused)) (v .lossesUnused))
       (hold-coefficients (gridOf r) (v .coefficients)))
       (eq-eqb _ _ (v .wellStorage)))
-      (from-table (v .table)))
+      (columns-table (v .table)))
       (kept-totals (networkOf (gridOf r)) (stateOf r) (v .kept)))
       (kept-drawdowns (networkOf (gridOf r)) (stateOf r) (v .kept))
 

@@ -1,4 +1,4 @@
--- What 14 asks of the C that a record keeps between layers 1 and 2, by slot: for the inner contracts of this crate.
+-- What 14 asks of the C that a record keeps between layers 1 and 2 (N6), by slot: for the inner contracts of this crate.
 use mathlib.Core.Bool.{Bool}
 use mathlib.Core.List.{List}
 use Prim.Native.Nat.{ℕ, suc, _-_}

@@ -1,4 +1,5 @@
-// Whether a record keeps, as its C between layers 1 and 2, the value at s = 0.
+// Whether a record keeps, as its C between layers 1 and 2, the value at s = 0 (document 02, N6). C is in 10^-12 m²/s, areas in mm², thicknesses in mm,
+// Kv in nm/s.
 use coefficient_cells::areas_of;
 use geometry::from_table;
 use limits::CELL_PLACES;

@@ -1,6 +1,7 @@
 //! A step of records in which one number, or the few that go with it, is changed: every condition of 14 broken just barely beside its
-//! nearest allowed neighbour, and 9 by the pumped total and by the time. The changes are chosen for bore K. A change of R_0, R_1, b_2 or
-//! Kv_2 has bore K's C between layers 1 and 2 with it (document 02, N6): 2×A_1×Kv_2/b_2, rounded down.
+//! nearest allowed neighbour, and 9 by the pumped total and by the time. The changes are chosen for bore K. Where a change of R_0, R_1,
+//! b_2 or Kv_2 would else be refused for the C between layers 1 and 2 (document 02, N6), it has the C with it that bore K then keeps,
+//! 2×A_1×Kv_2/b_2, rounded down; that of R_0 to 5001 has the largest grid's.
 
 use crate::checksum::record_checksum;
 use crate::grid::slot;

@@ -10,9 +10,9 @@ use native.Mathlib.Omega.{arith}
 use Rattle.laws.specs.Sums.{mem-range, range-mem, range-below, mem-flatMap, flatMap-mem}
 use Rattle.limits.specs.Limits.{drawdownLimit}
 use Rattle.geometry.specs.Geometry.{fromTable}
-use Rattle.network.specs.Network.{Rule, Face, storageAt}
+use Rattle.network.specs.Network.{Face, storageAt}
 use Rattle.network.specs.Grid.{Grid, storedColumns, layersOf, upperLayers, placeCount, place, onePerPlace, acrossRule, downRule, acrossFace, downFace, screenFaces, facesOf, networkOf}
-use Rattle.network.specs.Kept.{OnTable, Proper}
+use Rattle.network.specs.Kept.{OnTable, OfUnconfined, OfTable, Proper}
 use Rattle.network.specs.laws.Cells.{joined}
 use Rattle.network.specs.laws.Places.{place-last, by-place, getD-one}
 
@@ -75,52 +75,46 @@ module _ (G : Grid) where
           let b = range-mem 1 (G .columns - 1) (c .1) in
           subst P (c .2) (lower (r .0) (c .0) (omega arith) (omega arith) (omega arith))
 
-  abbrev OfUnconfined : Face → Type 0
-  OfUnconfined f = f .rule ≡ Rule.unconfined → OnTable (networkOf G) (f .one) × OnTable (networkOf G) (f .two)
-
-  abbrev OfTable : Face → Type 0
-  OfTable f = (a kv₁ b₂ kv₂ : ℕ) → f .rule ≡ Rule.table a kv₁ b₂ kv₂ → OnTable (networkOf G) (f .one) × (0 < b₂) × (f .conductance ≡ fromTable a kv₁ b₂ kv₂ 0)
-
   -- where layer 1 is not screened, its faces alone are unconfined
-  unconfined-faces : G .screened 0 ≡ false → (f : Face) → List·Memᴰ f (facesOf G) → OfUnconfined f
+  unconfined-faces : G .screened 0 ≡ false → (f : Face) → List·Memᴰ f (facesOf G) → OfUnconfined (networkOf G) f
   unfolding acrossFace downFace acrossRule downRule
-  unconfined-faces dry = every-face OfUnconfined well within down
+  unconfined-faces dry = every-face (OfUnconfined (networkOf G)) well within down
     where
-      well : (i : ℕ) → i < G .layers → G .screened i ≡ true → OfUnconfined (acrossFace G i 0)
+      well : (i : ℕ) → i < G .layers → G .screened i ≡ true → OfUnconfined (networkOf G) (acrossFace G i 0)
       well zero h s e = absurd (true≢false (sym s ∙ dry))
       well (suc i) h s e = let z : _≡_ {A = ℕ} 0 1 = cc in absurd (omega arith)
 
-      within : (i j : ℕ) → i < G .layers → 0 < j → j < G .columns → OfUnconfined (acrossFace G i j)
+      within : (i j : ℕ) → i < G .layers → 0 < j → j < G .columns → OfUnconfined (networkOf G) (acrossFace G i j)
       within zero j h u v e = (on-table j u, on-table (suc j) (omega arith))
       within (suc i) j h u v e = let z : _≡_ {A = ℕ} 0 1 = cc in absurd (omega arith)
 
-      down : (i j : ℕ) → suc i < G .layers → 0 < j → j < G .columns → OfUnconfined (downFace G i j)
+      down : (i j : ℕ) → suc i < G .layers → 0 < j → j < G .columns → OfUnconfined (networkOf G) (downFace G i j)
       down zero j h u v e = let z : _≡_ {A = ℕ} 0 1 = cc in absurd (omega arith)
       down (suc i) j h u v e = let z : _≡_ {A = ℕ} 0 1 = cc in absurd (omega arith)
 
   -- the kept C between layers 1 and 2 is the value at s = 0
   abbrev pub KeptAtTable : Type 0
-  KeptAtTable = (j : ℕ) → 0 < j → j < G .columns → G .down 0 j ≡ fromTable (G .area j) (G .kv₁) (G .thickness₂) (G .kv₂) 0
+  KeptAtTable = (j : ℕ) → 0 < j → j < G .columns → G .down 0 j ≡ fromTable (G .area j) (G .kv₁) (G .b₂) (G .kv₂) 0
 
-  table-faces : 0 < G .thickness₂ → KeptAtTable → (f : Face) → List·Memᴰ f (facesOf G) → OfTable f
+  table-faces : 0 < G .b₂ → KeptAtTable → (f : Face) → List·Memᴰ f (facesOf G) → OfTable (networkOf G) f
   unfolding acrossFace downFace acrossRule downRule
-  table-faces thick keeps = every-face OfTable (λ i h s. across i 0) (λ i j h u v. across i j) down
+  table-faces thick keeps = every-face (OfTable (networkOf G)) (λ i h s. across i 0) (λ i j h u v. across i j) down
     where
-      across : (i j : ℕ) → OfTable (acrossFace G i j)
+      across : (i j : ℕ) → OfTable (networkOf G) (acrossFace G i j)
       across zero j a kv₁ b₂ kv₂ e = let z : _≡_ {A = ℕ} 0 1 = cc in absurd (omega arith)
       across (suc i) j a kv₁ b₂ kv₂ e = let z : _≡_ {A = ℕ} 0 1 = cc in absurd (omega arith)
 
-      down : (i j : ℕ) → suc i < G .layers → 0 < j → j < G .columns → OfTable (downFace G i j)
+      down : (i j : ℕ) → suc i < G .layers → 0 < j → j < G .columns → OfTable (networkOf G) (downFace G i j)
       down zero j h u v a kv₁ b₂ kv₂ e =
           let p : G .area j ≡ a = cc in
           let q : G .kv₁ ≡ kv₁ = cc in
-          let r : G .thickness₂ ≡ b₂ = cc in
+          let r : G .b₂ ≡ b₂ = cc in
           let s : G .kv₂ ≡ kv₂ = cc in
           (on-table j u, omega arith, rw (← p, ← q, ← r, ← s) (keeps j u v))
       down (suc i) j h u v a kv₁ b₂ kv₂ e = let z : _≡_ {A = ℕ} 0 1 = cc in absurd (omega arith)
 
   pub proper-grid : G .screened 0 ≡ false → 0 < G .wellStorage → ((i j : ℕ) → i < G .layers → 0 < j → j < G .columns → 0 < G .storage i j) → 1000 * G .intake ≤ drawdownLimit
-      → 0 < G .thickness₂ → KeptAtTable → Proper (networkOf G)
+      → 0 < G .b₂ → KeptAtTable → Proper (networkOf G)
   unfolding networkOf storageAt placeCount onePerPlace
   proper-grid dry well cells intake thick keeps = record {
     well = omega arith;

@@ -10,8 +10,8 @@ use Rattle.geometry.specs.Geometry.{fromTable}
 use Rattle.geometry.specs.Laws.{from-table-le}
 use Rattle.network.specs.Network.{Rule, saturated, atTable, inUseBy, water}
 
--- C in use is at most C: on an unconfined face while both drawdowns are within layer 1, on one below the water table while end one's is and C is the value
--- at s = 0
+-- C in use is at most C: on an unconfined face while both drawdowns are within layer 1, on one between layers 1 and 2 while end one's is and C is the
+-- value at s = 0
 module _ (b₁ C : ℕ) where
   abbrev pub WithinLayer : ℤ → Type 0
   WithinLayer D = UpTo (1000 * b₁) D
@@ -23,9 +23,9 @@ module _ (b₁ C : ℕ) where
       most : (a b : ℕ) → a ≤ 1000 * b₁ → b ≤ 1000 * b₁ → 1000 * b₁ - a + (1000 * b₁ - b) ≤ 2000 * b₁
       most a b u v = omega arith
 
-  lowered : (x kv₁ b₂ kv₂ a : ℕ) (Db : ℤ) → a ≤ 1000 * b₁ → 0 < b₂ → C ≡ fromTable x kv₁ b₂ kv₂ 0 → UpTo C (inUseBy b₁ C (Rule.table x kv₁ b₂ kv₂) (pos a) Db)
+  by-table : (x kv₁ b₂ kv₂ a : ℕ) (Db : ℤ) → a ≤ 1000 * b₁ → 0 < b₂ → C ≡ fromTable x kv₁ b₂ kv₂ 0 → UpTo C (inUseBy b₁ C (Rule.table x kv₁ b₂ kv₂) (pos a) Db)
   unfolding inUseBy saturated atTable
-  lowered x kv₁ b₂ kv₂ a Db u p e = rw (diff-le (1000 * b₁) a u, e) (pos-≤ℤ zero-le, pos-≤ℤ (from-table-le x kv₁ b₂ kv₂ (1000 * b₁ - a) p))
+  by-table x kv₁ b₂ kv₂ a Db u p e = rw (diff-le (1000 * b₁) a u, e) (pos-≤ℤ zero-le, pos-≤ℤ (from-table-le x kv₁ b₂ kv₂ (1000 * b₁ - a) p))
 
   pub in-use : (r : Rule) (Da Db : ℤ)
       → (r ≡ Rule.unconfined → WithinLayer Da × WithinLayer Db)
@@ -36,7 +36,7 @@ module _ (b₁ C : ℕ) where
   in-use Rule.unconfined Da Db h k = let w = h refl in rw (natural (w .0 .0), natural (w .1 .0)) (reduced (natAbs Da) (natAbs Db) (abs-up-to (w .0)) (abs-up-to (w .1)))
   in-use (Rule.table x kv₁ b₂ kv₂) Da Db h k =
       let w = k x kv₁ b₂ kv₂ refl in
-      rw (natural (w .0 .0)) (lowered x kv₁ b₂ kv₂ (natAbs Da) Db (abs-up-to (w .0)) (w .1) (w .2))
+      rw (natural (w .0 .0)) (by-table x kv₁ b₂ kv₂ (natAbs Da) Db (abs-up-to (w .0)) (w .1) (w .2))
 
 -- ---- water between drawdowns a and b, neither below 0
 

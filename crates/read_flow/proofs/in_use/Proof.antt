@@ -67,8 +67,8 @@ first-layer c =
     let f = of-from (c .before .before) in
     omega (arith, c .if2 .left, slot-in _ _ (rw (f .from .given .1) at (start (of-to f) .pre .0 .1)))
 
-lowered-at-requires : tie.Need-lowered-at-requires
-lowered-at-requires c κs =
+column-at-table-requires : tie.Need-column-at-table-requires
+column-at-table-requires c κs =
     let f = of-from (c .before .before) in
     let s = start (of-to f) in
     let top = at-top (f .from .given .1) (first-layer c) in
@@ -77,7 +77,7 @@ lowered-at-requires c κs =
 returns-4 : tie.Need-returns-4
 returns-4 c =
     let k = c .before .before .before in
-    c .lowered-at .ensures
+    c .column-at-table .ensures
     ∙ table-in _ _ _ _ _ _ (of-from k .from .given .1) (of-to (of-from k) .to .given .1) (k .slot-of .ensures .0) (c .before .before .if1 .taken) (first-layer (c .before))
 
 mul-result-3 : tie.Need-mul-result-3
@@ -146,7 +146,7 @@ in-use-spec =
     mul-result-2
     element-copy-out-result-2
     returns-3
-    lowered-at-requires
+    column-at-table-requires
     returns-4
     mul-result-3
     element-copy-out-result-3

@@ -7,7 +7,7 @@ use lib.IntN.{pos}
 use lib.ListN.{getD}
 use Rattle.laws.specs.Fill.{fill, fill-none, fill-more}
 use Rattle.laws.specs.Signed.{back}
-use Rattle.step_flows.specs.Flows.{loweredC, tableFlowAt}
+use Rattle.step_flows.specs.Flows.{tableC, tableFlowAt}
 use Rattle.step_flows.proofs.table_row.Statement.{statement}
 use Rattle.step_flows.proofs.table_row.Tie as tie
 
@@ -35,21 +35,21 @@ mul-below c = omega arith
 element-copy-out-below : tie.Need-element-copy-out-below Inv-loop μ-loop
 element-copy-out-below c = omega arith
 
-add-lowered : tie.Need-add-lowered Inv-loop μ-loop
-add-lowered c = omega arith
+add-at-table : tie.Need-add-at-table Inv-loop μ-loop
+add-at-table c = omega arith
 
-mul-lowered : tie.Need-mul-lowered Inv-loop μ-loop
-mul-lowered c = omega arith
+mul-at-table : tie.Need-mul-at-table Inv-loop μ-loop
+mul-at-table c = omega arith
 
-element-copy-out-lowered : tie.Need-element-copy-out-lowered Inv-loop μ-loop
-element-copy-out-lowered c = omega arith
+element-copy-out-at-table : tie.Need-element-copy-out-at-table Inv-loop μ-loop
+element-copy-out-at-table c = omega arith
 
 -- the turn, from where the three numbers are read
-abbrev turn : tie.After-lowered-arg Inv-loop μ-loop → tie.At-loop Inv-loop μ-loop
+abbrev turn : tie.After-at-table-arg Inv-loop μ-loop → tie.At-loop Inv-loop μ-loop
 turn c = c .before .before .before .before
 
-lowered-requires : tie.Need-lowered-requires Inv-loop μ-loop
-lowered-requires c κs =
+at-table-requires : tie.Need-at-table-requires Inv-loop μ-loop
+at-table-requires c κs =
     let at = turn c in
     let p = at .before .pre in
     let k = at .loop .k in
@@ -59,11 +59,11 @@ lowered-requires c κs =
     )
 
 -- C in use of the face, from s of layer 1
-in-use : (c : tie.After-lowered Inv-loop μ-loop) →
+in-use : (c : tie.After-at-table Inv-loop μ-loop) →
     let at = turn (c .before) in
     let a = at .before .args in
-    pos (c .lowered .result) ≡ loweredC (a .thickness) (a .kv1) (a .b2) (a .kv2) (getD (now (a .areas)) (at .loop .k + 1) 0) (pos (getD (now (a .depths)) (at .loop .k) 0))
-in-use c = c .lowered .ensures
+    pos (c .at-table .result) ≡ tableC (getD (now (a .areas)) (at .loop .k + 1) 0) (a .thickness) (a .kv1) (a .b2) (a .kv2) (pos (getD (now (a .depths)) (at .loop .k) 0))
+in-use c = c .at-table .ensures
 
 crossing-requires : tie.Need-crossing-requires Inv-loop μ-loop
 unfolding tableFlowAt
@@ -114,10 +114,10 @@ table-row-spec =
     add-below
     mul-below
     element-copy-out-below
-    add-lowered
-    mul-lowered
-    element-copy-out-lowered
-    lowered-requires
+    add-at-table
+    mul-at-table
+    element-copy-out-at-table
+    at-table-requires
     crossing-requires
     mul-t15
     element-set-from-down

@@ -14,7 +14,7 @@ use Rattle.validity.proofs.Checked.{numbersPass, arraysPass, storagePas
 use Rattle.validity.proofs.valid.Statement.{statement}
 use Rattle.validity.proofs.valid.Tie as tie
 
--- ---- the places on the way: after the numbers, the coefficients, the well's storage, C below the water table and the totals, each from the next
+-- ---- the places on the way: after the numbers, the coefficients, the well's storage, C between layers 1 and 2 and the totals, each from the next
 abbrev given : tie.Else1 → Record
 given c = c .before .before .before .before .before .args .t1
 

@@ -1,4 +1,4 @@
--- `step_flows::lowered` meets its contract: C in use is at most the value at s = 0, so that the quotient is a word.
+-- `step_flows::at_table` meets its contract: C in use is at most the value at s = 0, so that the quotient is a word.
 use mathlib.Core.Path.{_≡_, sym, ap, _∙_}
 use Prim.Native.Nat.{ℕ, _*_, _-_}
 use native.Mathlib.Nat.{lt-of-le-of-lt}
@@ -10,9 +10,9 @@ use Rattle.words.specs.Laws.{fitted-word}
 use Rattle.words.specs.declared.Quotient.the-variants.{Word, Over}
 use Rattle.geometry.specs.Geometry.{fromTable}
 use Rattle.geometry.specs.Laws.{from-table-le}
-use Rattle.step_flows.proofs.Laws.{lowered-is}
-use Rattle.step_flows.proofs.lowered.Statement.{statement}
-use Rattle.step_flows.proofs.lowered.Tie as tie
+use Rattle.step_flows.proofs.Laws.{table-is}
+use Rattle.step_flows.proofs.at_table.Statement.{statement}
+use Rattle.step_flows.proofs.at_table.Tie as tie
 
 -- C in use
 abbrev C : tie.Start → ℕ
@@ -47,7 +47,7 @@ returns c =
     let a = at .before .args in
     let e : Word (c .before .c .given .0 .0) ≡ Word (C (at .before)) = sym (c .before .c .given .1) ∙ word at in
     let q : c .before .c .given .0 .0 ≡ C (at .before) = cc in
-    ap pos q ∙ sym (lowered-is (a .thickness) (a .kv1) (a .b2) (a .kv2) (a .a) (a .here) (at .before .pre .1 .0))
+    ap pos q ∙ sym (table-is (a .a) (a .thickness) (a .kv1) (a .b2) (a .kv2) (a .here) (at .before .pre .1 .0))
 
 returns-2 : tie.Need-returns-2
 returns-2 c =
@@ -56,8 +56,8 @@ returns-2 c =
     let none : _≡_ {A = ℕ} 0 1 = cc in
     absurd (omega arith)
 
-pub lowered-spec : {M : Type 1} → statement M
-lowered-spec =
+pub at-table-spec : {M : Type 1} → statement M
+at-table-spec =
     tie.close
     (tie.spec
     mul-from-table
