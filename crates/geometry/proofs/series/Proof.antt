@@ -7,8 +7,6 @@ use Rattle.geometry.specs.Geometry.{terms}
 use Rattle.geometry.proofs.Laws.{one-more, none-left, product-at-most, product-fits, term-fits}
 use Rattle.geometry.proofs.series.Statement.{statement}
 use Rattle.geometry.proofs.series.Tie as tie
-use Rattle.geometry.proofs.series.Reads as reads
-use Rattle.geometry.proofs.series.Lts as lts
 
 abbrev Inv-loop : tie.InvT-loop
 Inv-loop z w sum₀ t₀ k₀ sum t k = (k ≤ 16) × (t ≤ 2 ^ 29) × (sum ≤ k * 2 ^ 29) × (sum + terms (16 - k) w k t ≡ terms 16 w 0 z)

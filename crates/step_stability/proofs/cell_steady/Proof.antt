@@ -4,10 +4,6 @@ use Rattle.step_stability.specs.Stability.{cellSteady}
 use borrow.Author.Needs.{needs}
 use Rattle.step_stability.proofs.cell_steady.Statement.{statement}
 use Rattle.step_stability.proofs.cell_steady.Tie as tie
-use Rattle.step_stability.proofs.cell_steady.Reads as reads
-use Rattle.step_stability.proofs.cell_steady.Lts as lts
-use Rattle.step_stability.proofs.cell_sum.Reads as cell-sum-reads
-use Rattle.words.proofs.multiply.product_le.Reads as product-le-reads
 
 add-if1 : tie.Need-add-if1
 add-if1 c = search needs

@@ -5,10 +5,6 @@ use Rattle.step_stability.proofs.Laws.{inward-le, upper-le}
 use borrow.Author.Needs.{needs}
 use Rattle.step_stability.proofs.cell_sum.Statement.{statement}
 use Rattle.step_stability.proofs.cell_sum.Tie as tie
-use Rattle.step_stability.proofs.cell_sum.Reads as reads
-use Rattle.step_stability.proofs.cell_sum.Lts as lts
-use Rattle.step_stability.proofs.inward.Reads as inward-reads
-use Rattle.step_stability.proofs.upper.Reads as upper-reads
 
 mul-result : tie.Need-mul-result
 mul-result c = search needs

@@ -10,9 +10,6 @@ use Rattle.laws.specs.All.{all-none, all-more, all-fails}
 use Rattle.step_stability.specs.Stability.{cellSteady}
 use Rattle.step_stability.proofs.cells_steady.Statement.{statement}
 use Rattle.step_stability.proofs.cells_steady.Tie as tie
-use Rattle.step_stability.proofs.cells_steady.Reads as reads
-use Rattle.step_stability.proofs.cells_steady.Lts as lts
-use Rattle.step_stability.proofs.cell_steady.Reads as cell-steady-reads
 
 abbrev Inv-loop : tie.InvT-loop
 Inv-loop n columns screen horizontal vertical storages dt k₀ k = (k ≤ n) × (allBelow k (cellSteady columns screen horizontal vertical storages dt) ≡ true)

@@ -4,8 +4,6 @@ use Rattle.step_stability.specs.Stability.{inwardC}
 use borrow.Author.Needs.{needs}
 use Rattle.step_stability.proofs.inward.Statement.{statement}
 use Rattle.step_stability.proofs.inward.Tie as tie
-use Rattle.step_stability.proofs.inward.Reads as reads
-use Rattle.step_stability.proofs.inward.Lts as lts
 
 mul-result : tie.Need-mul-result
 mul-result c = search needs

@@ -7,11 +7,6 @@ use lib.Dec.{leb}
 use Rattle.step_stability.specs.Stability.{wellSum, slotsSteady}
 use Rattle.step_stability.proofs.steady.Statement.{statement}
 use Rattle.step_stability.proofs.steady.Tie as tie
-use Rattle.step_stability.proofs.steady.Reads as reads
-use Rattle.step_stability.proofs.steady.Lts as lts
-use Rattle.step_stability.proofs.cells_steady.Reads as cells-steady-reads
-use Rattle.step_stability.proofs.well_sum.Reads as well-sum-reads
-use Rattle.words.proofs.multiply.product_le.Reads as product-le-reads
 
 -- the test at the well
 well-test : (c : tie.After-product-le) → let a = c .before .before .args in c .product-le .result ≡ leb (a .dt * wellSum (a .layers) (a .screen .now)) (10 ^ 6 * a .well-storage)

@@ -4,8 +4,6 @@ use Rattle.step_stability.specs.Stability.{upperC}
 use borrow.Author.Needs.{needs}
 use Rattle.step_stability.proofs.upper.Statement.{statement}
 use Rattle.step_stability.proofs.upper.Tie as tie
-use Rattle.step_stability.proofs.upper.Reads as reads
-use Rattle.step_stability.proofs.upper.Lts as lts
 
 returns : tie.Need-returns
 unfolding upperC

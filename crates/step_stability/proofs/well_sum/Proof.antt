@@ -7,8 +7,6 @@ use Rattle.step_stability.specs.Stability.{wellSum}
 use Rattle.step_stability.proofs.Laws.{well-none, well-more}
 use Rattle.step_stability.proofs.well_sum.Statement.{statement}
 use Rattle.step_stability.proofs.well_sum.Tie as tie
-use Rattle.step_stability.proofs.well_sum.Reads as reads
-use Rattle.step_stability.proofs.well_sum.Lts as lts
 
 abbrev Inv-loop : tie.InvT-loop
 Inv-loop layers screen sum₀ i₀ sum i = (i ≤ layers) × (sum ≡ wellSum i screen) × (sum ≤ i * conductanceLimit)
