@@ -125,8 +125,8 @@ pub both-open : (a kv₁ kv₂ d : ℕ) → (kv₁ ≡ 0 → ⊥) → (kv₂ ≡
 both-open a kv₁ kv₂ d p q = rw (ne-eqb kv₁ 0 p, ne-eqb kv₂ 0 q, mul-assoc a kv₁ kv₂)
 
 -- a product in their divisor
-pub product-above : (x y : ℕ) → 0 < x → (y ≡ 0 → ⊥) → 0 < x * y
-product-above x y hx hy = mul-pos {m = x} {n = y} hx (omega (arith, hy))
+pub product-above : (x y : ℕ) → 0 < x → 0 < y → 0 < x * y
+product-above x y hx hy = mul-pos {m = x} {n = y} hx hy
 
 -- ---- areas
 pub square-at-most : (b : ℕ) {a : ℕ} → a ≤ b → a * a ≤ b * b

@@ -3,7 +3,9 @@ use words::Quotient;
 use words::divide::quotient;
 use words::divide::quotient_word;
 ghost use mathlib.Core.Path.{_≡_};
-ghost use Prim.Native.Nat.{ℕ, _+_, _*_, _<_, _≤_, _^_};
+ghost use mathlib.Core.Bool.{cond, _||_};
+ghost use Prim.Native.Nat.{ℕ, _+_, _*_, _/_, _<_, _≤_, _^_};
+ghost use lib.Dec.{eqb};
 ghost use Rattle.limits.specs.Limits.{midsectionFactor};
 ghost use Rattle.words.specs.Fitted.{fitted};
 ghost use Rattle.geometry.specs.Geometry.{terms, seriesLogarithm, logarithmOfThree, logarithm, area, horizontal, vertical, fromTable, unconfinedStorage, confinedStorage, wellStorage};
@@ -69,10 +71,10 @@ pub fn horizontal(b: u64, kh: u64, log: u64) -> Quotient
     quotient(b * kh, 6746518852, log)
 }
 
-// Vertical C over an area between a layer below layer 1, of b1 and kv1, and the next one; 0 if either lets no water through.
-pub fn vertical(a: u64, b1: u64, kv1: u64, b2: u64, kv2: u64) -> Quotient
-    requires { ⌜ (a ≤ 2 ^ 44) × (0 < b1) × (b1 ≤ 1000000) × (kv1 ≤ 100000000) × (b2 ≤ 1000000) × (kv2 ≤ 100000000) ⌝ }
-    ensures { λ r. ⌜ r ≡ fitted (vertical a b1 kv1 b2 kv2) ⌝ }
+// A quotient with the conductivities of both layers in its dividend: 0 if either lets no water through, where the divisor may be 0.
+fn through_both(a: u64, kv1: u64, kv2: u64, d: u64) -> Quotient
+    requires { ⌜ (kv1 ≤ 100000000) × (kv2 ≤ 100000000) × (0 < kv1 → 0 < kv2 → 0 < d) ⌝ }
+    ensures { λ r. ⌜ r ≡ fitted (cond (eqb kv1 0 || eqb kv2 0) 0 (a * kv1 * kv2 / d)) ⌝ }
 {
     if kv1 == 0 {
         return Quotient::Word(0);
@@ -80,7 +82,15 @@ pub fn vertical(a: u64, b1: u64, kv1: u64, b2: u64, kv2: u64) -> Quotient
     if kv2 == 0 {
         return Quotient::Word(0);
     }
-    quotient(a * 2, kv1 * kv2, b1 * kv2 + b2 * kv1)
+    quotient(a, kv1 * kv2, d)
+}
+
+// Vertical C over an area between a layer below layer 1, of b1 and kv1, and the next one; 0 if either lets no water through.
+pub fn vertical(a: u64, b1: u64, kv1: u64, b2: u64, kv2: u64) -> Quotient
+    requires { ⌜ (a ≤ 2 ^ 44) × (0 < b1) × (b1 ≤ 1000000) × (kv1 ≤ 100000000) × (b2 ≤ 1000000) × (kv2 ≤ 100000000) ⌝ }
+    ensures { λ r. ⌜ r ≡ fitted (vertical a b1 kv1 b2 kv2) ⌝ }
+{
+    through_both(a * 2, kv1, kv2, b1 * kv2 + b2 * kv1)
 }
 
 // Vertical C over an area between layers 1 and 2, where the water table is s µm above the bottom of layer 1; 0 if either lets no water through.
@@ -88,13 +98,7 @@ pub fn from_table(a: u64, kv1: u64, b2: u64, kv2: u64, s: u64) -> Quotient
     requires { ⌜ (a ≤ 2 ^ 44) × (kv1 ≤ 100000000) × (0 < b2) × (b2 ≤ 1000000) × (kv2 ≤ 100000000) × (s ≤ 1000000000) ⌝ }
     ensures { λ r. ⌜ r ≡ fitted (fromTable a kv1 b2 kv2 s) ⌝ }
 {
-    if kv1 == 0 {
-        return Quotient::Word(0);
-    }
-    if kv2 == 0 {
-        return Quotient::Word(0);
-    }
-    quotient(a * 1000, kv1 * kv2, s * kv2 + 500 * b2 * kv1)
+    through_both(a * 1000, kv1, kv2, s * kv2 + 500 * b2 * kv1)
 }
 
 // S of a cell of layer 1.
