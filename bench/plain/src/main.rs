@@ -1,5 +1,5 @@
 //! The reference model's arithmetic as a plain loop, for bench/run: a scenario text on standard input to its listing on standard output.
-//! 14, 7 and 8 are judged once an entry, 9 to 11 at every step, and the losses are updated in place. With the word `numbers` it prints
+//! 14, 7 and 8 are judged once an entry, 9 to 11 at every step, and losses and mark are updated in place. With the word `numbers` it prints
 //! instead what the step in double precision (double.c) reads.
 
 use reference_model::geometry;
@@ -88,6 +88,7 @@ impl Run {
         }
         self.record.pumped += volume;
         self.record.time += length;
+        self.record.mark = self.record.mark.max(drawdown(self.record.well_loss, self.record.well_s));
         Ok(())
     }
 

@@ -158,5 +158,6 @@ pub fn checksum_of(rec: Record) -> u64 {
     let storages = with_cells(with(down, rec.well_storage), &rec.storages, n, m);
     let losses = losses_of(&rec.losses);
     let lost = with_cells(with(storages, size(rec.well_loss)), &losses, n, m);
-    with(with(with(lost, rec.pumped), size(rec.inflow)), rec.time)
+    let totals = with(with(with(lost, rec.pumped), size(rec.inflow)), rec.time);
+    with(totals, size(rec.mark))
 }

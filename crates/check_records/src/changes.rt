@@ -2,6 +2,8 @@
 // numbers that go together. `before` is what stood there.
 // Where a change of R_0, R_1, b_2 or Kv_2 would else be refused for the C between layers 1 and 2 (document 02, N6), it has the C with it that
 // bore K then keeps, 2×A_1×Kv_2/b_2, rounded down; that of R_0 to 5001 has the largest grid's.
+// Changed losses have a mark with them (document 02, N1) that is no less than the drawdowns that bore K then has, so that a change is refused
+// for what it is there for; one that is less is in the group `marks`, and where no word holds the drawdown.
 use record::Record;
 use site::Site;
 
@@ -280,7 +282,7 @@ pub fn storages(before: Record, case: u64) -> Record {
     rec
 }
 
-// What a step moves: V of bore K's places, which are the well and column 1 of layers 1 and 2, and the totals.
+// What a step moves: V of bore K's places, which are the well and column 1 of layers 1 and 2, the totals, and the mark.
 fn with_state(
     before: Record,
     well: i64,
@@ -289,6 +291,7 @@ fn with_state(
     inflow: i64,
     pumped: u64,
     time: u64,
+    mark: i64,
 ) -> Record {
     let mut rec = before;
     rec.well_loss = well;
@@ -297,57 +300,90 @@ fn with_state(
     rec.inflow = inflow;
     rec.pumped = pumped;
     rec.time = time;
+    rec.mark = mark;
     rec
 }
 
-// Losses and inflow that do not add up to the pumped total, are negative, or stand in a slot that no cell uses.
+// Losses and inflow that do not add up to the pumped total, are negative, or stand in a slot that no cell uses. The narrow well's layer 2 is
+// 3 µm deep in the first seven.
 pub fn sums(before: Record, case: u64) -> Record {
     match case {
-        1 => with_state(before, 10, 20, 30, 40, 100, 0),
-        2 => with_state(before, 10, 20, 30, 40, 99, 0),
-        3 => with_state(before, 10, 20, 30, 40, 101, 0),
-        4 => with_state(before, 11, 20, 30, 40, 100, 0),
-        5 => with_state(before, 10, 21, 30, 40, 100, 0),
-        6 => with_state(before, 10, 20, 31, 40, 100, 0),
-        7 => with_state(before, 10, 20, 30, 41, 100, 0),
-        8 => with_state(before, 0, 0, 0, 0, 0, 0),
-        9 => with_state(before, -1, 0, 0, 1, 0, 0),
-        10 => with_state(before, 1, -1, 0, 0, 0, 0),
-        11 => with_state(before, 1, 0, -1, 0, 0, 0),
-        12 => with_state(before, 1, 0, 0, -1, 0, 0),
-        13 => with_state(before, 0, 0, 0, -9223372036854775808, 0, 0),
+        1 => with_state(before, 10, 20, 30, 40, 100, 0, 3),
+        2 => with_state(before, 10, 20, 30, 40, 99, 0, 3),
+        3 => with_state(before, 10, 20, 30, 40, 101, 0, 3),
+        4 => with_state(before, 11, 20, 30, 40, 100, 0, 3),
+        5 => with_state(before, 10, 21, 30, 40, 100, 0, 3),
+        6 => with_state(before, 10, 20, 31, 40, 100, 0, 3),
+        7 => with_state(before, 10, 20, 30, 41, 100, 0, 3),
+        8 => with_state(before, 0, 0, 0, 0, 0, 0, 0),
+        9 => with_state(before, -1, 0, 0, 1, 0, 0, 0),
+        10 => with_state(before, 1, -1, 0, 0, 0, 0, 0),
+        11 => with_state(before, 1, 0, -1, 0, 0, 0, 0),
+        12 => with_state(before, 1, 0, 0, -1, 0, 0, 0),
+        13 => with_state(before, 0, 0, 0, -9223372036854775808, 0, 0, 0),
         // these add up to 2^64
-        14 => with_state(before, 9223372036854775807, 2, 0, 9223372036854775807, 0, 0),
-        15 => with_loss(before, 1, 1, 0, 1),
-        16 => with_loss(before, 1, -1, 1, 0),
-        17 => with_loss(before, 100, 1, 0, 1),
-        18 => with_loss(before, 999, 1, 0, 1),
+        14 => with_state(
+            before,
+            9223372036854775807,
+            2,
+            0,
+            9223372036854775807,
+            0,
+            0,
+            307445734561825,
+        ),
+        15 => with_loss(before, 1, 1, 0, 1, 0),
+        16 => with_loss(before, 1, -1, 1, 0, 0),
+        17 => with_loss(before, 100, 1, 0, 1, 0),
+        18 => with_loss(before, 999, 1, 0, 1, 0),
         _ => before,
     }
 }
 
-// A loss in a slot that no cell of bore K uses, and totals that go with it.
-fn with_loss(before: Record, slot: usize, loss: i64, inflow: i64, pumped: u64) -> Record {
-    let mut rec = with_state(before, 0, 0, 0, inflow, pumped, 0);
+// A loss in a slot that no cell of bore K uses, with the totals and the mark that go with it.
+fn with_loss(
+    before: Record,
+    slot: usize,
+    loss: i64,
+    inflow: i64,
+    pumped: u64,
+    mark: i64,
+) -> Record {
+    let mut rec = with_state(before, 0, 0, 0, inflow, pumped, 0, mark);
     if slot < 1000 {
         rec.losses[slot] = loss;
     }
     rec
 }
 
+// All that was pumped came from the last column.
+fn with_totals(before: Record, inflow: i64, pumped: u64, time: u64) -> Record {
+    with_state(before, 0, 0, 0, inflow, pumped, time, 0)
+}
+
 // The pumped total and the time at their limit, and where the step that is tried brings them there.
 pub fn totals(before: Record, case: u64) -> Record {
     match case {
-        1 => with_state(before, 0, 0, 0, 4000000000000000000, 4000000000000000000, 0),
-        2 => with_state(before, 0, 0, 0, 4000000000000000001, 4000000000000000001, 0),
-        3 => with_state(before, 0, 0, 0, 3999999999500000000, 3999999999500000000, 0),
-        4 => with_state(before, 0, 0, 0, 3999999999500000001, 3999999999500000001, 0),
-        5 => with_state(before, 0, 0, 0, 0, 0, 4000000000000000000),
-        6 => with_state(before, 0, 0, 0, 0, 0, 4000000000000000001),
-        7 => with_state(before, 0, 0, 0, 0, 0, 3999999999999500000),
-        8 => with_state(before, 0, 0, 0, 0, 0, 3999999999999500001),
+        1 => with_totals(before, 4000000000000000000, 4000000000000000000, 0),
+        2 => with_totals(before, 4000000000000000001, 4000000000000000001, 0),
+        3 => with_totals(before, 3999999999500000000, 3999999999500000000, 0),
+        4 => with_totals(before, 3999999999500000001, 3999999999500000001, 0),
+        5 => with_totals(before, 0, 0, 4000000000000000000),
+        6 => with_totals(before, 0, 0, 4000000000000000001),
+        7 => with_totals(before, 0, 0, 3999999999999500000),
+        8 => with_totals(before, 0, 0, 3999999999999500001),
         _ => before,
     }
+}
+
+// V of the well alone, which is all that was pumped, and the mark.
+fn with_well_loss(before: Record, loss: i64, pumped: u64, mark: i64) -> Record {
+    with_state(before, loss, 0, 0, 0, pumped, 0, mark)
+}
+
+// V of column 1 of layers 1 and 2 alone, which together are all that was pumped, and the mark.
+fn with_cell_losses(before: Record, upper: i64, lower: i64, pumped: u64, mark: i64) -> Record {
+    with_state(before, 0, upper, lower, 0, pumped, 0, mark)
 }
 
 fn with_storages(before: Record, upper: u64, lower: u64) -> Record {
@@ -357,18 +393,34 @@ fn with_storages(before: Record, upper: u64, lower: u64) -> Record {
     rec
 }
 
-// Drawdowns of the well, of layer 1 and of layer 2 at their bounds for bore K, and one that no word holds.
+// Drawdowns at their bounds, the mark as deep: of bore K's well at 1000×p; of a layer 1 like bore K's at its bottom, and of layer 2 at 10^9; one
+// that no word holds, and one that would be 0 in a word; of bore K's cells at 1000×p; of the deep intake's well at 10^9. Since a cell deeper
+// than 1000×p is refused whatever the mark is, bore K itself shows neither that bottom nor 10^9: the deep intake does, and the largest grid 10^9.
 pub fn depths(before: Record, case: u64) -> Record {
+    // 1 nl to a µm
     let thin = with_storages(before, 1000000, 1000000);
     let empty = with_storages(before, 1000000, 1);
     match case {
-        1 => with_state(before, 299970029999, 0, 0, 0, 299970029999, 0),
-        2 => with_state(before, 299970030000, 0, 0, 0, 299970030000, 0),
-        3 => with_state(thin, 0, 10000000, 0, 0, 10000000, 0),
-        4 => with_state(thin, 0, 10000001, 0, 0, 10000001, 0),
-        5 => with_state(thin, 0, 0, 1000000000, 0, 1000000000, 0),
-        6 => with_state(thin, 0, 0, 1000000001, 0, 1000000001, 0),
-        7 => with_state(empty, 0, 0, 4000000000000000000, 0, 4000000000000000000, 0),
+        1 => with_well_loss(before, 299970029999, 299970029999, 9999000),
+        2 => with_well_loss(before, 299970030000, 299970030000, 9999001),
+        3 => with_cell_losses(thin, 10000000, 0, 10000000, 10000000),
+        4 => with_cell_losses(thin, 10000001, 0, 10000001, 10000001),
+        5 => with_cell_losses(thin, 0, 1000000000, 1000000000, 1000000000),
+        6 => with_cell_losses(thin, 0, 1000000001, 1000000001, 1000000001),
+        7 => with_cell_losses(
+            empty,
+            0,
+            4000000000000000000,
+            4000000000000000000,
+            9223372036854775807,
+        ),
+        8 => with_cell_losses(empty, 0, 288230376151711744, 288230376151711744, 0),
+        9 => with_cell_losses(thin, 9999000, 0, 9999000, 9999000),
+        10 => with_cell_losses(thin, 9999001, 0, 9999001, 9999001),
+        11 => with_cell_losses(thin, 0, 9999000, 9999000, 9999000),
+        12 => with_cell_losses(thin, 0, 9999001, 9999001, 9999001),
+        13 => with_well_loss(before, 30000000029999, 30000000029999, 1000000000),
+        14 => with_well_loss(before, 30000000030000, 30000000030000, 1000000001),
         _ => before,
     }
 }
@@ -406,22 +458,83 @@ fn with_verticals(before: Record, upper: u64, lower: u64, c: u64) -> Record {
     rec
 }
 
-// Bore K's water table at the bottom of layer 1, above a layer 2 that is full and above one that is deeper, 1 µm above the bottom, and
-// halfway; another Kv_1; then a Kv of 0, with the table at the bottom and as it was.
+// The water table at the bottom of layer 1, above a layer 2 that is full and above one that is deeper, 1 µm above the bottom, and halfway;
+// another Kv_1; then a Kv of 0, with the table at the bottom and as it was. Bore K's table cannot be at the bottom, since its intake is above
+// it; that of the deep intake can, and layers 1 and 2 are as large there. Then bore K's table as deep as its intake, one 1 mm above that over a
+// layer 2 that is as deep as the intake, another Kv_1, and a Kv_1 of 0.
 pub fn tables(before: Record, case: u64) -> Record {
-    let bottom = with_state(before, 0, 1507964000000, 0, 0, 1507964000000, 0);
-    let halfway = with_state(before, 0, 753982000000, 0, 0, 753982000000, 0);
+    let bottom = with_cell_losses(before, 1507964000000, 0, 1507964000000, 10000000);
+    let halfway = with_cell_losses(before, 753982000000, 0, 753982000000, 5000000);
+    let intake = with_cell_losses(before, 1507813203600, 0, 1507813203600, 9999000);
     match case {
         1 => bottom,
-        2 => with_state(before, 0, 1507964000000, 18095568000, 0, 1526059568000, 0),
-        3 => with_state(before, 0, 1507963849204, 0, 0, 1507963849204, 0),
+        2 => with_cell_losses(before, 1507964000000, 18095568000, 1526059568000, 12000000),
+        3 => with_cell_losses(before, 1507963849204, 0, 1507963849204, 9999999),
         4 => halfway,
-        5 => with_verticals(bottom, 1, 10000, 7539820),
+        5 => with_verticals(bottom, 1, 5000000, 7539820),
         6 => with_verticals(halfway, 1, 10000, 7539820),
         7 => with_verticals(bottom, 0, 10000, 0),
         8 => with_verticals(bottom, 10000, 0, 0),
         9 => with_verticals(bottom, 0, 0, 0),
         10 => with_verticals(before, 0, 10000, 0),
+        11 => intake,
+        12 => with_cell_losses(before, 1507662407200, 15078132036, 1522740539236, 9999000),
+        13 => with_verticals(intake, 1, 10000, 7539820),
+        14 => with_verticals(intake, 0, 10000, 0),
+        _ => before,
+    }
+}
+
+fn with_mark(before: Record, mark: i64) -> Record {
+    let mut rec = before;
+    rec.mark = mark;
+    rec
+}
+
+// The mark alone: at bore K's drawdown of the well and under it, at what the step that is tried brings that to and over it; at 1000×p and over
+// it, for bore K, for an intake of 16, of 17 and of 1,000,000 mm; 0, negative, and at the ends of a word. Then with losses.
+pub fn marks(before: Record, case: u64) -> Record {
+    match case {
+        1 => with_mark(before, 33015),
+        2 => with_mark(before, 33014),
+        3 => with_mark(before, 49173),
+        4 => with_mark(before, 49174),
+        5 => with_mark(before, 9999000),
+        6 => with_mark(before, 9999001),
+        7 => with_mark(before, 16000),
+        8 => with_mark(before, 16001),
+        9 => with_mark(before, 17000),
+        10 => with_mark(before, 17001),
+        11 => with_mark(before, 1000000000),
+        12 => with_mark(before, 1000000001),
+        13 => with_mark(before, 0),
+        14 => with_mark(before, -1),
+        15 => with_mark(before, -9223372036854775808),
+        16 => with_mark(before, 9223372036854775807),
+        _ => marks_of_losses(before, case),
+    }
+}
+
+// The mark with losses: the well just under and at 1 µm; a cell of layer 1, one of layer 2, and that with a deeper well; a cell at 1000×p and
+// over it; a cell of the largest grid's last stored column, in its topmost and in its deepest layer.
+fn marks_of_losses(before: Record, case: u64) -> Record {
+    match case {
+        17 => with_well_loss(before, 29999, 29999, 0),
+        18 => with_well_loss(before, 30000, 30000, 0),
+        19 => with_well_loss(before, 30000, 30000, 1),
+        20 => with_cell_losses(before, 1507964000, 0, 1507964000, 10000),
+        21 => with_cell_losses(before, 1507964000, 0, 1507964000, 9999),
+        22 => with_cell_losses(before, 0, 15079640, 15079640, 10000),
+        23 => with_cell_losses(before, 0, 15079640, 15079640, 9999),
+        24 => with_state(before, 600000000, 0, 15079640, 0, 615079640, 0, 20000),
+        25 => with_state(before, 600000000, 0, 15079640, 0, 615079640, 0, 19999),
+        26 => with_cell_losses(before, 0, 15078132036, 15078132036, 9999000),
+        27 => with_cell_losses(before, 0, 15078133544, 15078133544, 9999001),
+        28 => with_cell_losses(before, 0, 15078133544, 15078133544, 9999000),
+        29 => with_loss(before, 48, 421452524710, 0, 421452524710, 1),
+        30 => with_loss(before, 48, 421452524710, 0, 421452524710, 0),
+        31 => with_loss(before, 998, 210726263, 0, 210726263, 1),
+        32 => with_loss(before, 998, 210726263, 0, 210726263, 0),
         _ => before,
     }
 }

@@ -74,7 +74,8 @@ fn changed(before: Record, group: u64, case: u64) -> Record {
         10 => changes::totals(rec, case),
         11 => changes::depths(rec, case),
         12 => changes::below(rec, case),
-        _ => changes::tables(rec, case),
+        13 => changes::tables(rec, case),
+        _ => changes::marks(rec, case),
     }
 }
 
@@ -100,10 +101,11 @@ fn print_groups(before: Record) {
     print_group(before, b"storages", 8, 11);
     print_group(before, b"sums", 9, 18);
     print_group(before, b"totals", 10, 8);
-    print_group(before, b"depths", 11, 7);
+    print_group(before, b"depths", 11, 14);
     print_group(before, b"below", 12, 12);
     print_group(before, b"alone", 5, 14);
-    print_group(before, b"tables", 13, 10);
+    print_group(before, b"tables", 13, 14);
+    print_group(before, b"marks", 14, 32);
 }
 
 // The record after the steps of the first entry, as many of them as are taken.

@@ -36,6 +36,7 @@ fn print_budget(rec: Record) {
             print_integer(totals.well_loss);
             print_integer(totals.cell_loss);
             print_integer(totals.inflow);
+            print_integer(totals.mark);
         }
     }
     print_line_end();

@@ -133,6 +133,7 @@ module _ (s : Site) (counts : countsHold s ≡ true) where
               pumped = 0;
               inflow = pos 0;
               time = 0;
+              mark = pos 0;
             };
           })
           (coefficientsOf s)

@@ -32,7 +32,7 @@ scenarioGrid s = record {
   intake = s .intake;
 }
 
--- the record at the start: the scenario's numbers, each C and S in its slot, no losses, totals or time yet
+-- the record at the start: the scenario's numbers, each C and S in its slot, no losses, totals, time or mark yet
 unfoldable pub startRecord : Site → Record
 startRecord s = record {
   site = s;
@@ -46,6 +46,7 @@ startRecord s = record {
   pumped = 0;
   inflow = pos 0;
   time = 0;
+  mark = pos 0;
 }
 
 -- the answer of 6: whether every C and S is within its limits, and the record at the start if so, else the all-zero record

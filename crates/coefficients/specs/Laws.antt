@@ -61,6 +61,7 @@ slotted put s = record {
   pumped = 0;
   inflow = pos 0;
   time = 0;
+  mark = pos 0;
 }
 
 pub start-slotted : (s : Site) → startRecord s ≡ slotted (λ used n. cond used n 0) s

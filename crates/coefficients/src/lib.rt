@@ -130,6 +130,7 @@ pub fn coefficients_of(site: Site) -> Coefficients
             pumped: 0,
             inflow: 0,
             time: 0,
+            mark: 0,
         },
     }
 }

@@ -1,9 +1,10 @@
--- The vocabulary of the definitions: sums, tests, the first refusal of a table, an array. Nothing is proved here.
+-- The vocabulary of the definitions: the larger of two numbers, sums, tests, the first refusal of a table, an array. Nothing is proved here.
 use mathlib.Core.Bool.{Bool, true, false, cond, _&&_, _||_}
 use mathlib.Core.List.{List, [], _∷_, _++_}
 use Prim.Native.Nat.{ℕ, zero, suc, _+_}
 use lib.IntN.{ℤ, pos, _+ℤ_}
 use lib.ListN.{take, replicate}
+use lib.Signed.{leZ}
 
 -- the n numbers from k on
 unfoldable pub range : ℕ → ℕ → List ℕ
@@ -14,6 +15,10 @@ range k (suc n) = k ∷ range (suc k) n
 unfoldable pub falling : ℕ → ℕ → List ℕ
 falling k zero = []
 falling k (suc n) = (k + suc n) ∷ falling k n
+
+-- the larger of two numbers
+unfoldable pub larger : ℤ → ℤ → ℤ
+larger a b = cond (leZ a b) b a
 
 -- ---- sums
 

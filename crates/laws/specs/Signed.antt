@@ -2,18 +2,19 @@
 --     back            what is read back from the bits of a number that fits is that number; read: of one without a sign
 --     small-fits      a number whose size is below 2^63 fits
 --     abs-neg, abs-add   the size of an opposite and of a sum
+--     negative-test, natural-test   what a test `v < 0` says; is-natural, size-small: of a number that is not below 0
 --     room-fits       what numbers can be added to within a limit below 2^63 fits; room-up: a larger limit; room-sum: the sum is within it
 --     Adding          numbers that a loop adds one after another; adding-start, adding-more, adding-done: its invariant
 use mathlib.Core.Path.{_≡_, refl, sym, ap, _∙_}
-use mathlib.Core.Bool.{Bool, true, false, cond}
+use mathlib.Core.Bool.{Bool, true, false, cond, false≢true}
 use mathlib.Core.List.{List, [], _∷_, map}
 use Prim.Native.Nat.{ℕ, zero, suc, _+_, _-_, _≤_, _<_, _^_}
 use native.Mathlib.Nat.{le-trans, zero-add, sub-zero}
 use native.Mathlib.Numerals.{add-one}
 use native.Mathlib.Omega.{arith}
 use lib.IntN.{ℤ, pos, negsuc, negℤ, natAbs, subℕ, _+ℤ_, +ℤ-idl, +ℤ-idr, +ℤ-assoc}
-use lib.Dec.{ltb}
-use lib.Signed.{mag}
+use lib.Dec.{T, ltb}
+use lib.Signed.{mag, ltZ, nonNeg}
 use borrow.Author.Tests.{ltb-true}
 use mir.Syntax.{w64}
 use mir.Val.{SFits, toZ, ofZ}
@@ -51,6 +52,23 @@ abs-add (pos a) (pos b) = omega arith
 abs-add (pos a) (negsuc b) = sub-abs a (suc b)
 abs-add (negsuc a) (pos b) = omega (arith, sub-abs b (suc a))
 abs-add (negsuc a) (negsuc b) = omega arith
+
+-- ---- what a test `v < 0` says
+pub negative-test : (v : ℤ) → ltZ v (pos 0) ≡ true → false ≡ nonNeg v
+negative-test (pos n) e = absurd (omega (arith, ltb-true n 0 e))
+negative-test (negsuc n) e = refl
+
+pub natural-test : (v : ℤ) → ltZ v (pos 0) ≡ false → true ≡ nonNeg v
+natural-test (pos n) e = refl
+natural-test (negsuc n) e = e
+
+pub is-natural : (v : ℤ) → nonNeg v ≡ true → T (nonNeg v)
+is-natural (pos n) e = tt
+is-natural (negsuc n) e = absurd (false≢true e)
+
+pub size-small : (v : ℤ) → nonNeg v ≡ true → mag v < 2 ^ 63 → natAbs v < 9223372036854775808
+size-small (pos n) e h = h
+size-small (negsuc n) e h = absurd (false≢true e)
 
 -- ---- sums within a limit
 

@@ -1,51 +1,30 @@
 -- The accepted steps of a run: laws only, nothing to believe.
---     Steps N s ts s′    the accepted steps ts lead from the state s to s′; accepted-steps: those of a list of calls do
+--     Steps N s ts s′    the accepted steps ts lead from the state s to s′
 --     conserved-over     they conserve water
 --     kept-over          they lead from a kept state to a kept one
---     depth-natural      no D of a kept state is below 0; rest-within: at rest every D is 0
---     greatest-natural   the largest D that the well has had is not below 0
---     within-over        no D rises past what was the largest before them and what the well has had since
-use mathlib.Core.Path.{_≡_, refl, sym, ap, _∙_}
-use mathlib.Core.Bool.{Bool, true, false, cond}
-use mathlib.Core.List.{List, [], _∷_}
-use Prim.Native.Nat.{ℕ, zero, suc, _*_, _≤_, _<_, zero-le}
-use native.Mathlib.Nat.{zero-div}
-use native.Mathlib.Omega.{arith}
-use lib.Dec.{eqb, leb}
+--     one-more           one accepted step more; greatest-more: the largest D that the well has had is raised by it, or stays
+use mathlib.Core.Path.{_≡_, sym, ap, _∙_}
+use mathlib.Core.Bool.{Bool}
+use mathlib.Core.List.{List, [], _∷_, _++_}
+use Prim.Native.Nat.{ℕ, _*_}
 use lib.IntN.{ℤ, pos, negℤ, _+ℤ_, _-ℤ_, +ℤ-idr, negℤ-+ℤ}
-use lib.Signed.{_≤ℤ_, leZ}
-use borrow.Author.Tests.{eqb-true, leb-true, leb-false, not-false}
-use Rattle.laws.specs.Fill.{getD-same}
-use Rattle.laws.specs.Integer.{+ℤ-swap, regroup, natural, pos-≤ℤ, ≤ℤ-pos}
-use Rattle.laws.specs.Lists.{ifℤ, sumℕ, sumℤ}
+use lib.Signed.{_≤ℤ_}
+use Rattle.laws.specs.Integer.{+ℤ-swap, regroup, natural, larger-natural, larger-assoc, larger-comm}
+use Rattle.laws.specs.Lists.{larger, ifℤ, sumℕ, sumℤ}
 use Rattle.laws.specs.Sums.{ifℤ-add, ifℤ-pos, ifℕ-zero}
-use Rattle.network.specs.Network.{Network, State, atRest, lossAt, drawdown, flow, inward, lossIn, moved, stable, unstable, refusal}
+use Rattle.network.specs.Network.{Network, State, atRest, drawdown, flow, inward, lossIn, moved, refusal}
 use Rattle.network.specs.Kept.{Proper, Kept}
 use Rattle.network.specs.laws.Ends.{Inside}
 use Rattle.network.specs.laws.Conserve.{conserved}
-use Rattle.network.specs.laws.Bounds.{depth-is, depths-after}
-use Rattle.network.specs.laws.Preserve.{accepted, kept-moved, kept-at-rest}
-use Rattle.ledger.specs.Calls.{Call, step, read}
-use Rattle.ledger.specs.Ledger.{afterCall, afterCalls, Accepted, acceptedFrom, pumpedBy, netInto, larger, greatest}
+use Rattle.network.specs.laws.Preserve.{kept-moved, kept-at-rest}
+use Rattle.validity.specs.Laws.{depth-natural}
+use Rattle.start_laws.specs.Laws.{rest-depth}
+use Rattle.ledger.specs.Ledger.{Accepted, pumpedBy, netInto, greatest}
 
 pub data Steps (N : Network) : State → List Accepted → State → Type 0 where
   none : {s : State} → Steps N s [] s
   more : {s s′ : State} {rate dt : ℕ} {ts : List Accepted} → refusal N s rate dt ≡ 0 → Steps N (moved N s rate dt) ts s′
       → Steps N s (record { before = s; rate = rate; length = dt } ∷ ts) s′
-
-pub accepted-steps : (N : Network) (cs : List Call) (s : State) → Steps N s (acceptedFrom N s cs) (afterCalls N s cs)
-unfolding acceptedFrom afterCalls afterCall
-accepted-steps N [] s = none
-accepted-steps N (read q ∷ cs) s = accepted-steps N cs s
-accepted-steps N (step rate dt ∷ cs) s =
-    by-test (eqb (refusal N s rate dt) 0) (eqb-true (refusal N s rate dt) 0) (accepted-steps N cs (moved N s rate dt)) (accepted-steps N cs s)
-  where
-    by-test : (t : Bool) → (t ≡ true → refusal N s rate dt ≡ 0)
-        → Steps N (moved N s rate dt) (acceptedFrom N (moved N s rate dt) cs) (afterCalls N (moved N s rate dt) cs)
-        → Steps N s (acceptedFrom N s cs) (afterCalls N s cs)
-        → Steps N s (cond t (record { before = s; rate = rate; length = dt } ∷ acceptedFrom N (moved N s rate dt) cs) (acceptedFrom N s cs)) (afterCalls N (cond t (moved N s rate dt) s) cs)
-    by-test true e taken refused = more (e refl) taken
-    by-test false e taken refused = refused
 
 -- ---- conservation
 module _ (N : Network) (A : ℕ → Bool) where
@@ -79,58 +58,35 @@ module _ (N : Network) (A : ℕ → Bool) where
       turn : (a b c d : ℤ) → (a +ℤ b -ℤ c) +ℤ d ≡ a +ℤ ((b -ℤ c) +ℤ d)
       turn a b c d = simp regroup
 
--- ---- bounds
--- the larger of two natural numbers is at most M where both are
-larger-most : (a b M : ℕ) → larger (pos a) (pos b) ≤ℤ pos M → (a ≤ M) × (b ≤ M)
-unfolding larger
-larger-most a b M = by-test (leb a b) (leb-true a b) (leb-false a b)
-  where
-    by-test : (t : Bool) → (t ≡ true → a ≤ b) → (t ≡ false → b < a) → cond t (pos b) (pos a) ≤ℤ pos M → (a ≤ M) × (b ≤ M)
-    by-test true low high h = (omega (arith, low refl, ≤ℤ-pos h), ≤ℤ-pos h)
-    by-test false low high h = (≤ℤ-pos h, omega (arith, high refl, ≤ℤ-pos h))
-
-larger-natural : {a b : ℤ} → pos 0 ≤ℤ a → pos 0 ≤ℤ b → pos 0 ≤ℤ larger a b
-unfolding larger
-larger-natural {a} {b} h k = by-test (leZ a b)
-  where
-    by-test : (t : Bool) → pos 0 ≤ℤ cond t b a
-    by-test true = k
-    by-test false = h
-
+-- ---- the largest D that the well has had
 module _ (N : Network) (proper : Proper N) where
-  -- every D of s is at most M
-  abbrev pub Within : State → ℕ → Type 0
-  Within s M = (p : ℕ) → p < N .places → drawdown N (s .losses) p ≤ℤ pos M
-
-  pub depth-natural : {s : State} → Kept N s → (p : ℕ) → pos 0 ≤ℤ drawdown N (s .losses) p
-  depth-natural {s} kept p = rw (depth-is N proper s kept p) (pos-≤ℤ zero-le)
-
-  -- at rest every D is 0
-  pub rest-within : (M : ℕ) → Within (atRest N) M
-  unfolding drawdown atRest lossAt
-  rest-within M p h = rw (getD-same (N .places) p (pos 0), zero-div) (pos-≤ℤ zero-le)
-
   pub kept-over : {s s′ : State} {ts : List Accepted} → Kept N s → Steps N s ts s′ → Kept N s′
   kept-over kept none = kept
   kept-over kept (more {s} {rate = rate} {dt} e rest) = kept-over (kept-moved N proper s kept rate dt e) rest
 
-  pub greatest-natural : {s s′ : State} {ts : List Accepted} → Kept N s → Steps N s ts s′ → pos 0 ≤ℤ greatest N ts
+  greatest-natural : {s s′ : State} {ts : List Accepted} → Kept N s → Steps N s ts s′ → pos 0 ≤ℤ greatest N ts
   unfolding greatest
-  greatest-natural kept none = depth-natural (kept-at-rest N) 0
-  greatest-natural kept (more {s} {rate = rate} {dt} e rest) =
+  greatest-natural kept none = depth-natural N proper (atRest N) (kept-at-rest N) 0
+  greatest-natural kept (more {s} {rate = rate} {dt} {ts} e rest) =
       let next = kept-moved N proper s kept rate dt e in
-      larger-natural (depth-natural next 0) (greatest-natural next rest)
+      larger-natural (depth-natural N proper (moved N s rate dt) next 0) (greatest-natural next rest)
 
-  pub within-over : {s s′ : State} {ts : List Accepted} (M : ℕ) → Kept N s → Within s M → Steps N s ts s′ → greatest N ts ≤ℤ pos M → Within s′ M
-  unfolding greatest moved unstable
-  within-over M kept w none top = w
-  within-over M kept w (more {s} {rate = rate} {dt} {ts} e rest) top =
-      let next = kept-moved N proper s kept rate dt e in
-      let deepest = larger-most _ _ M (rw (natural (depth-natural next 0), natural (greatest-natural next rest)) at top) in
-      within-over M next
-      (elim [
-        | zero ↦ λ h. rw (natural (depth-natural next 0)) (pos-≤ℤ (deepest .0))
-        | suc p ↦ λ h. depths-after N proper s kept dt (not-false (stable N dt) (accepted N s rate dt e .steady)) rate M w (suc p) h (λ q. absurd (omega arith))
-      ])
-      rest
-      (rw (natural (greatest-natural next rest)) (pos-≤ℤ (deepest .1)))
+  -- one accepted step more
+  module _ (rate dt : ℕ) where
+    pub one-more : {s s′ : State} {ts : List Accepted} → Steps N s ts s′ → refusal N s′ rate dt ≡ 0
+        → Steps N s (ts ++ (record { before = s′; rate = rate; length = dt } ∷ [])) (moved N s′ rate dt)
+    one-more none e = more e none
+    one-more (more d rest) e = more d (one-more rest e)
+
+    -- the largest D that the well has had is raised by it, or stays
+    pub greatest-more : {s s′ : State} {ts : List Accepted} → Kept N s → Steps N s ts s′ → refusal N s′ rate dt ≡ 0
+        → larger (greatest N ts) (drawdown N (moved N s′ rate dt .losses) 0) ≡ greatest N (ts ++ (record { before = s′; rate = rate; length = dt } ∷ []))
+    unfolding greatest
+    greatest-more kept (none {s}) e =
+        let next = kept-moved N proper s kept rate dt e in
+        rw (rest-depth N 0, natural (depth-natural N proper (moved N s rate dt) next 0)) (larger-comm 0 _)
+    greatest-more kept (more {s} {s′} {rate = r} {dt = d} first rest) e =
+        let next = kept-moved N proper s kept r d first in
+        let last = kept-moved N proper s′ (kept-over next rest) rate dt e in
+        larger-assoc (depth-natural N proper (moved N s r d) next 0) (greatest-natural next rest) (depth-natural N proper (moved N s′ rate dt) last 0)
+        ∙ ap (larger (drawdown N (moved N s r d .losses) 0)) (greatest-more next rest e)

@@ -1,7 +1,7 @@
 -- Readings of a record that carries the ledger's state: laws only, nothing to believe.
 --     told-depth, told-budget, ..           each reading answers what the ledger has for it
 --     same-budget, same-loss, same-depth    so where it is given, it gives what the ledger's network and state give
---     cell-place                            a cell that is named is a place
+--     named-place                           what is named is a place
 --     set-inside, set-loss                  the set that bytes give has places only; its storage loss is that of the bytes
 use mathlib.Core.Path.{_≡_, refl, ap, fun-ext, _∙_}
 use mathlib.Core.Bool.{Bool, true, false, cond, not, _&&_, _||_, false≢true}
@@ -97,13 +97,14 @@ module _ {scenario : Site} {s : State} {r : Record} (h : Carries scenario s r) w
   unfolding first
   same-depth p e = told-depth p ∙ rw e
 
-  pub told-budget : budgetOf r ≡ balanceOf 0 (totalsIn N s)
-  unfolding budgetOf first
-  told-budget = rw (h .valid, network-is h, h .state)
+  module _ {mark : ℤ} (e : r .mark ≡ mark) where
+    pub told-budget : budgetOf r ≡ balanceOf 0 (totalsIn N s mark)
+    unfolding budgetOf first
+    told-budget = rw (h .valid, network-is h, h .state) (ap (λ m. balanceOf 0 (totalsIn N s m)) e)
 
-  pub same-budget : budgetOf r ≡ balanceOf 0 (record { pumped = s .pumped; «well_loss» = lossAt (s .losses) 0; «cell_loss» = lossIn N (λ p. ltb 0 p) (s .losses); inflow = s .inflow })
-  unfolding totalsIn
-  same-budget = told-budget
+    pub same-budget : budgetOf r ≡ balanceOf 0 (record { pumped = s .pumped; «well_loss» = lossAt (s .losses) 0; «cell_loss» = lossIn N (λ p. ltb 0 p) (s .losses); inflow = s .inflow; mark = mark })
+    unfolding totalsIn
+    same-budget = told-budget
 
   pub told-loss : (bytes : List ℕ) → lossOf r bytes ≡ amountOf (first ((not (eqb (length bytes) (placeCount G)), 13) ∷ [])) (lossIn N (setOf bytes) (s .losses))
   unfolding lossOf first
@@ -264,11 +265,12 @@ module _ {scenario : Site} {s : State} {r : Record} (h : Carries scenario s r) w
     unfolding headLossOf lossAnswerOf refused
     told-head-loss = rw (refused-is, h .state) (given-same lossAnswerOf (λ k x y. refl) refused (λ e. same-losses dt (layer - 1) (named-layer e .0) (named-layer e .1)))
 
--- a cell that is named is a place
-pub cell-place : (G : Grid) (i j : ℕ) → isNamed G (Cell i j) ≡ true → numberOf G (Cell i j) < networkOf G .places
-unfolding isNamed isLayer isStored numberOf networkOf
-cell-place G i zero e = absurd (false≢true (and-right (leb 1 i && leb i (G .layers)) false e))
-cell-place G i (suc j) e =
+-- what is named is a place
+pub named-place : (G : Grid) (p : Place) → isNamed G p ≡ true → numberOf G p < networkOf G .places
+unfolding isNamed isLayer isStored numberOf networkOf placeCount
+named-place G Well e = omega arith
+named-place G (Cell i zero) e = absurd (false≢true (and-right (leb 1 i && leb i (G .layers)) false e))
+named-place G (Cell i (suc j)) e =
     let layer = and-left (leb 1 i && leb i (G .layers)) (leb 1 (suc j) && ltb (suc j) (G .columns)) e in
     let column = and-right (leb 1 i && leb i (G .layers)) (leb 1 (suc j) && ltb (suc j) (G .columns)) e in
     place-below G (i - 1) j

@@ -1,30 +1,96 @@
 -- The record of a run and the ledger, call by call: laws only, nothing to believe.
---     carries-all       the record that the calls leave carries the ledger's state after them
+--     Runs              a record carries the ledger's state after some accepted steps, and its mark is the largest D that the well has had in them
+--     runs-left         so does the record that a call leaves; runs-all: that a list of calls leaves
 --     same-outcomes     the outcomes among their replies are the ledger's
-use mathlib.Core.Path.{_≡_, refl, ap₂, _∙_}
-use mathlib.Core.List.{List, [], _∷_}
-use Rattle.network.specs.Network.{State}
+use mathlib.Core.Path.{_≡_, refl, sym, ap, ap₂, subst, _∙_}
+use mathlib.Core.Bool.{Bool, true, false, cond}
+use mathlib.Core.List.{List, [], _∷_, _++_, append-nil, append-assoc}
+use Prim.Native.Nat.{ℕ}
+use lib.Dec.{eqb}
+use borrow.Author.Tests.{eqb-true}
+use Rattle.laws.specs.Lists.{larger}
+use Rattle.network.specs.Network.{Network, State, atRest, moved, refusal}
+use Rattle.network.specs.Network as network
 use Rattle.network.specs.Grid.{networkOf}
+use Rattle.network.specs.Kept.{Proper}
+use Rattle.network.specs.laws.Preserve.{kept-at-rest}
 use Rattle.site.specs.declared.Site.{Site}
 use Rattle.record.specs.declared.Record.{Record}
 use Rattle.coefficients.specs.Coefficients.{scenarioGrid}
-use Rattle.start_laws.specs.Laws.{Carries}
-use Rattle.start_laws.specs.Steps.{outcome-is, carries-on}
+use Rattle.validity.specs.Laws.{valid-record, valid-proper}
+use Rattle.start_laws.specs.Laws.{Carries, network-is}
+use Rattle.start_laws.specs.Steps.{outcome-is, carries-on, mark-on}
 use Rattle.ledger.specs.Calls.{Reading, drawdown, budget, loss, flow, deep, same, sameAs, headLoss, Call, step, read, Reply, replyTo, left, leftByAll, repliesTo}
-use Rattle.ledger.specs.Ledger.{afterCall, afterCalls, outcomesFrom}
+use Rattle.ledger.specs.Ledger.{afterCall, afterCalls, outcomesFrom, Accepted, acceptedFrom, greatest}
+use Rattle.ledger.specs.Told.{stepsAfter}
+use Rattle.ledger.proofs.AcceptedSteps.{Steps, one-more, greatest-more}
 use Rattle.ledger.specs.Promise.{outcomesIn}
 
-pub carries-left : {scenario : Site} {s : State} {r : Record} → Carries scenario s r → (c : Call)
+carries-left : {scenario : Site} {s : State} {r : Record} → Carries scenario s r → (c : Call)
     → Carries scenario (afterCall (networkOf (scenarioGrid scenario)) s c) (left r c)
 unfolding afterCall left
 carries-left h (read q) = h
 carries-left h (step rate dt) = carries-on h rate dt
 
-pub carries-all : {scenario : Site} {s : State} {r : Record} (cs : List Call) → Carries scenario s r
-    → Carries scenario (afterCalls (networkOf (scenarioGrid scenario)) s cs) (leftByAll r cs)
-unfolding afterCalls leftByAll
-carries-all [] h = h
-carries-all (c ∷ cs) h = carries-all cs (carries-left h c)
+-- a record of a run that has come to the ledger's state s by these accepted steps
+pub record Runs (scenario : Site) (ts : List Accepted) (s : State) (r : Record) : Type 0 where
+  pub carries : Carries scenario s r
+  pub steps : Steps (networkOf (scenarioGrid scenario)) (atRest (networkOf (scenarioGrid scenario))) ts s
+  pub mark : r .mark ≡ greatest (networkOf (scenarioGrid scenario)) ts
+
+module _ (scenario : Site) where
+  abbrev N : Network
+  N = networkOf (scenarioGrid scenario)
+
+  runs-step : {ts : List Accepted} {s : State} {r : Record} → Runs scenario ts s r → (rate dt : ℕ)
+      → Runs scenario (stepsAfter scenario ts s (step rate dt)) (afterCall N s (step rate dt)) (left r (step rate dt))
+  unfolding afterCall left acceptedFrom
+  runs-step {ts} {s} {r} h rate dt = record {
+    carries = carries-left (h .carries) (step rate dt);
+    steps = stepped (eqb (refusal N s rate dt) 0) (eqb-true (refusal N s rate dt) 0);
+    mark = mark-on (h .carries) rate dt ∙ marked (eqb (refusal N s rate dt) 0) (eqb-true (refusal N s rate dt) 0);
+  }
+    where
+      proper : Proper N
+      proper = rw (network-is (h .carries)) at (valid-proper r (valid-record r (h .carries .valid)))
+
+      more : List Accepted
+      more = record { before = s; rate = rate; length = dt } ∷ []
+
+      stepped : (t : Bool) → (t ≡ true → refusal N s rate dt ≡ 0) → Steps N (atRest N) (ts ++ cond t more []) (cond t (moved N s rate dt) s)
+      stepped true e = one-more N proper rate dt (h .steps) (e refl)
+      stepped false e = rw (append-nil ts) (h .steps)
+
+      marked : (t : Bool) → (t ≡ true → refusal N s rate dt ≡ 0)
+          → cond t (larger (r .mark) (network.drawdown N (moved N s rate dt .losses) 0)) (r .mark) ≡ greatest N (ts ++ cond t more [])
+      marked true e = rw (h .mark) (greatest-more N proper rate dt (kept-at-rest N) (h .steps) (e refl))
+      marked false e = rw (append-nil ts) (h .mark)
+
+  pub runs-left : {ts : List Accepted} {s : State} {r : Record} → Runs scenario ts s r → (c : Call)
+      → Runs scenario (stepsAfter scenario ts s c) (afterCall N s c) (left r c)
+  unfolding afterCall left acceptedFrom
+  runs-left h (step rate dt) = runs-step h rate dt
+  runs-left {ts} h (read q) = rw (append-nil ts) h
+
+  -- the accepted steps of a list of calls are those of the first and then those of the others
+  accepted-first : (s : State) (c : Call) (cs : List Call) → acceptedFrom N s (c ∷ cs) ≡ acceptedFrom N s (c ∷ []) ++ acceptedFrom N (afterCall N s c) cs
+  unfolding acceptedFrom afterCall
+  accepted-first s (read q) cs = refl
+  accepted-first s (step rate dt) cs = by-test (eqb (refusal N s rate dt) 0)
+    where
+      by-test : (t : Bool) → cond t (record { before = s; rate = rate; length = dt } ∷ acceptedFrom N (moved N s rate dt) cs) (acceptedFrom N s cs)
+          ≡ cond t (record { before = s; rate = rate; length = dt } ∷ []) [] ++ acceptedFrom N (cond t (moved N s rate dt) s) cs
+      by-test true = refl
+      by-test false = refl
+
+  pub runs-all : {ts : List Accepted} {s : State} {r : Record} (cs : List Call) → Runs scenario ts s r
+      → Runs scenario (ts ++ acceptedFrom N s cs) (afterCalls N s cs) (leftByAll r cs)
+  unfolding afterCalls leftByAll acceptedFrom
+  runs-all {ts} [] h = rw (append-nil ts) h
+  runs-all {ts} {s} {r} (c ∷ cs) h =
+      subst (λ l. Runs scenario l (afterCalls N (afterCall N s c) cs) (leftByAll (left r c) cs))
+      (append-assoc ts (acceptedFrom N s (c ∷ [])) (acceptedFrom N (afterCall N s c) cs) ∙ ap (λ l. ts ++ l) (sym (accepted-first s c cs)))
+      (runs-all cs (runs-left h c))
 
 -- ---- outcomes
 -- the reply to a reading holds no outcome of a step

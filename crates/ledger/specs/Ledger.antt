@@ -5,8 +5,7 @@ use mathlib.Core.List.{List, [], _∷_}
 use Prim.Native.Nat.{ℕ, _*_}
 use lib.IntN.{ℤ}
 use lib.Dec.{eqb}
-use lib.Signed.{leZ}
-use Rattle.laws.specs.Lists.{sumℕ, sumℤ}
+use Rattle.laws.specs.Lists.{larger, sumℕ, sumℤ}
 use Rattle.network.specs.Network.{Network, State, atRest, isPlace, drawdown, flow, inward, moved, refusal}
 use Rattle.network.specs.Grid.{Grid, networkOf}
 use Rattle.coefficients.specs.Coefficients.{scenarioGrid}
@@ -76,9 +75,6 @@ unfoldable pub netInto : Network → (ℕ → Bool) → List Accepted → ℤ
 netInto N s steps = sumℤ steps λ t. inward N s (flow N (t .before .losses) (t .length))
 
 -- the largest D that the well has had: at the start, where it is 0, and after each accepted step
-unfoldable pub larger : ℤ → ℤ → ℤ
-larger a b = cond (leZ a b) b a
-
 unfoldable pub greatest : Network → List Accepted → ℤ
 greatest N [] = drawdown N (atRest N .losses) 0
 greatest N (t ∷ steps) = larger (drawdown N (moved N (t .before) (t .rate) (t .length) .losses) 0) (greatest N steps)

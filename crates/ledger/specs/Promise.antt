@@ -17,7 +17,6 @@ use Rattle.record.specs.Record.{stateOf}
 use Rattle.validity.specs.Validity.{valid}
 use Rattle.scenario.specs.Scenario.{scenarioOf}
 use Rattle.readings.specs.declared.Place.{Place}
-use Rattle.readings.specs.declared.Place.the-variants.{Cell}
 use Rattle.readings.specs.Readings.{amountOf, balanceOf, isNamed, numberOf, drawdownOf, budgetOf, lossOf}
 use Rattle.ledger.specs.Calls.{Call, Reply, stepped, amount, balance, listed, compared, losses}
 use Rattle.ledger.specs.Ledger.{gridFrom, networkFrom, ledgerOf, outcomesFrom, acceptedOf, pumpedBy, inSet, netInto, greatest}
@@ -36,19 +35,22 @@ outcomesIn (losses l ∷ rs) = outcomesIn rs
 -- what holds of the replies of a list of calls from the record that start gives for a text, and of the record r that the last of them left
 pub record Holds (text : List ℕ) (calls : List Call) (replies : List Reply) (r : Record) : Type 0 where
   -- what each call of the list gives back, a reading too, is what the ledger has for it
-  pub told : Told (scenarioOf text) (atRest (networkFrom text)) calls replies
+  pub told : Told (scenarioOf text) [] (atRest (networkFrom text)) calls replies
   -- a step call is accepted exactly when the ledger accepts it, and a refused one has the ledger's number
   pub outcomes : outcomesIn replies ≡ outcomesFrom (networkFrom text) (atRest (networkFrom text)) calls
   -- the record's losses, totals and time are the ledger's
   pub state : stateOf r ≡ ledgerOf text calls
   -- 14 does not refuse the record
   pub accepted : valid r ≡ true
-  -- the budget reading gives the ledger's pumped total, well's loss, all cells' loss and inflow total
+  -- its mark is the largest D that the ledger's well has had
+  pub mark : r .mark ≡ greatest (networkFrom text) (acceptedOf text calls)
+  -- the budget reading gives the ledger's pumped total, well's loss, all cells' loss and inflow total, and that largest D
   pub budget : budgetOf r ≡ balanceOf 0 (record {
     pumped = ledgerOf text calls .pumped;
     «well_loss» = lossAt (ledgerOf text calls .losses) 0;
     «cell_loss» = lossIn (networkFrom text) (λ p. ltb 0 p) (ledgerOf text calls .losses);
     inflow = ledgerOf text calls .inflow;
+    mark = greatest (networkFrom text) (acceptedOf text calls);
   })
   -- the storage loss read for a set is the water pumped, if the well is in it, less the net water in over its border
   pub loss : (bytes : List ℕ) → length bytes ≡ placeCount (gridFrom text)
@@ -60,6 +62,6 @@ pub record Holds (text : List ℕ) (calls : List Call) (replies : List Reply) (r
       → drawdownOf r p ≡ amountOf 0 (drawdown (networkFrom text) (ledgerOf text calls .losses) (numberOf (gridFrom text) p))
   pub natural : (p : Place) → isNamed (gridFrom text) p ≡ true
       → pos 0 ≤ℤ drawdown (networkFrom text) (ledgerOf text calls .losses) (numberOf (gridFrom text) p)
-  -- and in the aquifer it is at most the largest that the well has had
-  pub within : (i j : ℕ) → isNamed (gridFrom text) (Cell i j) ≡ true
-      → drawdown (networkFrom text) (ledgerOf text calls .losses) (numberOf (gridFrom text) (Cell i j)) ≤ℤ greatest (networkFrom text) (acceptedOf text calls)
+  -- and at most the mark, in the well and in the aquifer
+  pub within : (p : Place) → isNamed (gridFrom text) p ≡ true
+      → drawdown (networkFrom text) (ledgerOf text calls .losses) (numberOf (gridFrom text) p) ≤ℤ r .mark

@@ -1,9 +1,10 @@
 -- What the ledger has for each call of a run (document 01, 'The ledger of a run', 'Readings' and 'Who brings a refusal about'): by the scenario's
--- numbers, its places, faces, C and S, and the ledger's state, and from no record of the run. 14 refuses only a record that is handed in for comparison.
+-- numbers, its places, faces, C and S, the ledger's state and its accepted steps, and from no record of the run. 14 refuses only a record that is
+-- handed in for comparison.
 -- Units: D µm; V, totals and water nl; Δt µs; inflow l/s, head losses m.
 use mathlib.Core.Path.{_≡_}
 use mathlib.Core.Bool.{Bool, not, _&&_, _||_}
-use mathlib.Core.List.{List, [], _∷_}
+use mathlib.Core.List.{List, [], _∷_, _++_}
 use Prim.Native.Nat.{_-_}
 use lib.Dec.{eqb, ltb}
 use lib.IntN.{ℤ}
@@ -21,28 +22,34 @@ use Rattle.readings.specs.Readings.{amountOf, balanceOf, samenessOf, isNamed, n
 use Rattle.hydraulics.specs.Hydraulics.{inflowOf}
 use Rattle.read_head_loss.specs.HeadLoss.{waterInto, lossesAt, lossAnswerOf, isScreenedLayer}
 use Rattle.ledger.specs.Calls.{drawdown, budget, loss, flow, deep, same, sameAs, headLoss, Call, step, read, Reply, stepped, amount, balance, listed, compared, losses}
-use Rattle.ledger.specs.Ledger.{afterCall}
+use Rattle.ledger.specs.Ledger.{afterCall, Accepted, acceptedFrom, greatest}
 
 -- equal layer and column counts and equal D everywhere, of a grid with the losses vs and another with the losses ws
 abbrev pub alike : Grid → List ℤ → Grid → List ℤ → Bool
 alike G vs H ws = eqb (G .layers) (H .layers) && eqb (G .columns) (H .columns) && sameDepthsIn G vs H ws
 
-module _ (scenario : Site) (s : State) where
+module _ (scenario : Site) (steps : List Accepted) (s : State) where
   abbrev G : Grid
   G = scenarioGrid scenario
 
   abbrev N : Network
   N = networkOf G
 
-  -- what the reply to one call is, in the state s
+  -- the accepted steps after a call
+  abbrev pub stepsAfter : Call → List Accepted
+  stepsAfter c = steps ++ acceptedFrom N s (c ∷ [])
+
+  -- what the reply to one call is, in the state s after these accepted steps
   unfoldable pub Tells : Call → Reply → Type 0
-  -- a step: the outcome by the ledger's judgement, and a record with the ledger's losses, totals and time after the call
+  -- a step: the outcome by the ledger's judgement, and a record with the ledger's losses, totals and time after the call, of which the mark is the
+  -- largest D that the ledger's well has had
   Tells (step rate dt) reply =
       (answer : Answer) × (reply ≡ stepped answer) × (answer .outcome ≡ outcomeOf (refusal N s rate dt)) × (stateOf (answer .«record») ≡ afterCall N s (step rate dt))
+      × (answer .«record» .mark ≡ greatest N (stepsAfter (step rate dt)))
   -- the drawdown at a place; 12 for no such place
   Tells (read (drawdown p)) reply = reply ≡ amount (amountOf (first ((not (isNamed G p), 12) ∷ [])) (network.drawdown N (s .losses) (numberOf G p)))
-  -- the pumped total, the well's loss, all cells' loss and the inflow total; never refused
-  Tells (read budget) reply = reply ≡ balance (balanceOf 0 (totalsIn N s))
+  -- the pumped total, the well's loss, all cells' loss, the inflow total and the largest D that the well has had; never refused
+  Tells (read budget) reply = reply ≡ balance (balanceOf 0 (totalsIn N s (greatest N steps)))
   -- the storage loss of a set; 13 for another count of bytes than of places
   Tells (read (loss bytes)) reply = reply ≡ amount (amountOf (first ((not (eqb (length bytes) (placeCount G)), 13) ∷ [])) (lossIn N (setOf bytes) (s .losses)))
   -- the water of a face from the first end named to the second, for a step Δt not taken; 12 for no such face, 7 and 8 for the Δt
@@ -59,8 +66,8 @@ module _ (scenario : Site) (s : State) where
       reply ≡ losses (lossAnswerOf (first ((not (isScreenedLayer G layer), 12) ∷ (lengthOut dt, 7) ∷ (unstable N dt, 8) ∷ []))
       (lossesAt scenario (λ i. inflowOf (waterInto G (s .losses) dt i) dt) (layer - 1)))
 
--- what the replies to a list of calls are, from the state s on
-pub data Told (scenario : Site) : State → List Call → List Reply → Type 0 where
-  nothing : {s : State} → Told scenario s [] []
-  further : {s : State} {c : Call} {cs : List Call} {reply : Reply} {replies : List Reply} → Tells scenario s c reply
-      → Told scenario (afterCall (networkOf (scenarioGrid scenario)) s c) cs replies → Told scenario s (c ∷ cs) (reply ∷ replies)
+-- what the replies to a list of calls are, from the state s on, after these accepted steps
+pub data Told (scenario : Site) : List Accepted → State → List Call → List Reply → Type 0 where
+  nothing : {steps : List Accepted} {s : State} → Told scenario steps s [] []
+  further : {steps : List Accepted} {s : State} {c : Call} {cs : List Call} {reply : Reply} {replies : List Reply} → Tells scenario steps s c reply
+      → Told scenario (stepsAfter scenario steps s c) (afterCall (networkOf (scenarioGrid scenario)) s c) cs replies → Told scenario steps s (c ∷ cs) (reply ∷ replies)

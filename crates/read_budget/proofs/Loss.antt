@@ -166,9 +166,9 @@ module _ (r : Record) (ok : valid r ≡ true) (n : ℕ) (e : n ≡ 1 + r .site .
   pub cells-listed : n ≤ length everyCell
   cells-listed = omega (arith, every-length, places-few)
 
-  pub budget-given : {w x i : ℤ} → w ≡ r .«well_loss» → x ≡ sumℤ (range 0 n) (countedLoss (r .«well_loss») (r .losses) (r .site .columns - 1) everyCell) → i ≡ r .inflow
-      → Balance.Given (record { pumped = r .pumped; «well_loss» = w; «cell_loss» = x; inflow = i }) ≡ budgetOf r
+  pub budget-given : {w x i m : ℤ} → w ≡ r .«well_loss» → x ≡ sumℤ (range 0 n) (countedLoss (r .«well_loss») (r .losses) (r .site .columns - 1) everyCell) → i ≡ r .inflow → m ≡ r .mark
+      → Balance.Given (record { pumped = r .pumped; «well_loss» = w; «cell_loss» = x; inflow = i; mark = m }) ≡ budgetOf r
   unfolding budgetOf totalsIn stateOf lossAt onePerPlace
-  budget-given p q o = balance-given (skip (ap not ok) none)
-      (rw (p, o) (ap {B = Totals} (λ z. record { pumped = r .pumped; «well_loss» = r .«well_loss»; «cell_loss» = z; inflow = r .inflow })
+  budget-given p q o m = balance-given (skip (ap not ok) none)
+      (rw (p, o, m) (ap {B = Totals} (λ z. record { pumped = r .pumped; «well_loss» = r .«well_loss»; «cell_loss» = z; inflow = r .inflow; mark = r .mark })
       (q ∙ loss-sum r (valid-record r ok) everyCell n e (λ p. ltb 0 p) (λ p h. every-cell p (omega (arith, places-few))))))

@@ -74,7 +74,7 @@ fn every_cell() -> [u8; 981]
     set
 }
 
-// The water budget.
+// The water budget, and the mark.
 pub fn budget(record: Record) -> Balance
     ensures { λ r. ⌜ r ≡ budgetOf «record» ⌝ }
 {
@@ -91,6 +91,7 @@ pub fn budget(record: Record) -> Balance
         well_loss: record.well_loss,
         cell_loss,
         inflow: record.inflow,
+        mark: record.mark,
     })
 }
 

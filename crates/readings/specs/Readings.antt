@@ -66,18 +66,19 @@ drawdownOf r p =
     amountOf (first ((not (valid r), 14) ∷ (not (isNamed (gridOf r) p), 12) ∷ []))
     (drawdown (networkOf (gridOf r)) (stateOf r .losses) (numberOf (gridOf r) p))
 
--- ---- budget, nl: pumped total, well's loss, all cells' loss, inflow total
+-- ---- budget, nl: pumped total, well's loss, all cells' loss, inflow total; and the mark, µm (N1)
 
-unfoldable pub totalsIn : Network → State → Totals
-totalsIn N s = record {
+unfoldable pub totalsIn : Network → State → ℤ → Totals
+totalsIn N s mark = record {
   pumped = s .pumped;
   «well_loss» = lossAt (s .losses) 0;
   «cell_loss» = lossIn N (λ p. ltb 0 p) (s .losses);
   inflow = s .inflow;
+  mark = mark;
 }
 
 unfoldable pub budgetOf : Record → Balance
-budgetOf r = balanceOf (first ((not (valid r), 14) ∷ [])) (totalsIn (networkOf (gridOf r)) (stateOf r))
+budgetOf r = balanceOf (first ((not (valid r), 14) ∷ [])) (totalsIn (networkOf (gridOf r)) (stateOf r) (r .mark))
 
 -- ---- storage loss of a set, nl
 

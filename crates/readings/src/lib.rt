@@ -21,12 +21,13 @@ pub enum Amount {
     Refused(u64),
 }
 
-// The water budget of a record, nl.
+// The water budget of a record, nl, and its mark.
 pub struct Totals {
     pub pumped: u64,
     pub well_loss: i64,
     pub cell_loss: i64,
     pub inflow: i64,
+    pub mark: i64, // the largest D that the well has had since start, µm
 }
 
 pub enum Balance {

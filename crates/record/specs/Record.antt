@@ -75,6 +75,7 @@ zeroRecord = record {
   pumped = 0;
   inflow = pos 0;
   time = 0;
+  mark = pos 0;
 }
 
 -- ---- the grid and the state that a record holds

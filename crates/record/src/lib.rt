@@ -22,6 +22,7 @@ pub struct Record {
     pub pumped: u64, // pumped total, nl
     pub inflow: i64, // inflow total, nl
     pub time: u64, // µs
+    pub mark: i64, // the largest D that the well has had since start, µm
 }
 
 // What became of a scenario text or a step.
@@ -73,5 +74,6 @@ pub fn all_zero() -> Record
         pumped: 0,
         inflow: 0,
         time: 0,
+        mark: 0,
     }
 }

@@ -2,26 +2,30 @@
 --     Carries scenario s r   14 does not refuse r, and r holds the scenario's numbers, C and S, and the state s
 --     counted, network-is    so the scenario's counts are within their limits, and the network of r is the scenario's
 --     screen-is, ..          and so is C of each face: of the well and a screened layer, of two columns (across-is), of two layers (down-is)
---     begun                  the record that start gives for an accepted text carries the scenario at rest
+--     rest-depth             at rest every D is 0
+--     begun                  the record that start gives for an accepted text carries the scenario at rest; begun-mark: its mark is 0
 use mathlib.Core.Path.{_≡_, refl, sym, ap, _∙_}
 use mathlib.Core.Bool.{Bool, true, cond, not, _&&_, or-true}
 use mathlib.Core.List.{List}
-use Prim.Native.Nat.{ℕ, suc, _+_, _≤_, _<_}
+use Prim.Native.Nat.{ℕ, suc, _+_, _≤_, _<_, zero-le}
+use native.Mathlib.Nat.{zero-div}
 use native.Mathlib.Omega.{arith}
 use borrow.Author.Tests.{eq-eqb, not-false}
 use lib.Dec.{eqb}
 use lib.IntN.{pos}
 use lib.ListN.{length, drop, length-drop, List·getD-eq-default}
 use lib.Seq.{getD-drop}
+use lib.Signed.{≤ℤ-refl}
 use Rattle.laws.specs.All.{and-left}
 use Rattle.laws.specs.Fill.{getD-same}
+use Rattle.laws.specs.Integer.{pos-≤ℤ}
 use Rattle.laws.specs.Lists.{padded}
 use Rattle.laws.specs.Padded.{length-padded, getD-padded}
 use Rattle.laws.specs.Pointwise.{every-from}
 use Rattle.laws.specs.Refusal.{passed, first-none, first-after}
 use Rattle.laws.specs.Rows.{both-hold, all-from}
 use Rattle.limits.specs.Limits.{layerPlaces, columnPlaces, coefficientPlaces, cellPlaces}
-use Rattle.network.specs.Network.{State, atRest}
+use Rattle.network.specs.Network.{Network, State, atRest, lossAt, drawdown}
 use Rattle.network.specs.Grid.{networkOf}
 use Rattle.network.specs.laws.Preserve.{kept-at-rest}
 use Rattle.text.specs.Text.{wellFormed, numbers}
@@ -38,7 +42,7 @@ use Rattle.coefficient_slots.specs.Slots.{usedSlot, coefficientsHold}
 use Rattle.coefficient_slots.specs.Laws.{Coefficients, coefficients-hold}
 use Rattle.validity_numbers.specs.Numbers.{zeroFrom, siteUnused}
 use Rattle.validity.specs.Validity.{lossesUnused, valid}
-use Rattle.validity.specs.Laws.{TableKept, valid-record, record-valid}
+use Rattle.validity.specs.Laws.{TableKept, Marked, valid-record, record-valid}
 use Rattle.coefficient_cells.specs.Cells.{acrossOf, downOf}
 use Rattle.coefficients.specs.Coefficients.{scenarioGrid, startRecord}
 use Rattle.coefficients.specs.Laws.{slotted, start-slotted, slotted-unused, screen-at, across-at, down-at, storage-at, start-network, start-state}
@@ -90,6 +94,11 @@ start-table s counts j one k =
     let known = site.counts-hold s counts in
     rw (start-slotted s) (down-at (λ used n. cond used n 0) s known 0 j (omega (arith, known .layers-least)) one k)
 
+-- ---- at rest every D is 0
+pub rest-depth : (N : Network) (p : ℕ) → drawdown N (atRest N .losses) p ≡ pos 0
+unfolding drawdown atRest lossAt
+rest-depth N p = rw (getD-same (N .places) p (pos 0), zero-div)
+
 -- ---- what an accepted text has passed
 record Passed (text : List ℕ) : Type 0 where
   form : Form (numbers text)
@@ -122,6 +131,10 @@ module _ (text : List ℕ) where
         coefficients = not-false _ (after6 .0);
       }
 
+  -- at rest no D is over a mark of 0
+  at-rest : (N : Network) → Marked N (atRest N .losses) (pos 0)
+  at-rest N = record { depths = λ p h. rw (rest-depth N p) (≤ℤ-refl (pos 0)); intake = pos-≤ℤ zero-le }
+
   passed-valid : Passed text → valid (startRecord (scenarioOf text)) ≡ true
   unfolding startRecord scenarioOf
   passed-valid p = record-valid (startRecord (scenarioOf text)) (record {
@@ -136,6 +149,7 @@ module _ (text : List ℕ) where
     wellStorage = refl;
     table = start-table (scenarioOf text) (p .counts);
     kept = rw (start-network (scenarioOf text) (p .counts), start-state (scenarioOf text) (p .counts)) (kept-at-rest (networkOf (scenarioGrid (scenarioOf text))));
+    marked = rw (start-network (scenarioOf text) (p .counts), start-state (scenarioOf text) (p .counts)) (at-rest (networkOf (scenarioGrid (scenarioOf text))));
   })
 
 -- ---- the record at the start of a run
@@ -165,15 +179,22 @@ module _ {scenario : Site} {s : State} {r : Record} (h : Carries scenario s r) w
   pub down-is : (i j : ℕ) → suc i < scenario .layers → 1 ≤ j → j < scenario .columns → gridOf r .down i j ≡ downOf scenario i j
   down-is i j k one m = ap (λ g. g .down i j) slotted-grid ∙ down-at _ scenario (site.counts-hold scenario counted) i j k one m
 
-pub begun : (text : List ℕ) → startOf text .outcome ≡ outcomeOf 0
-    → Carries (scenarioOf text) (atRest (networkOf (scenarioGrid (scenarioOf text)))) (startOf text .«record»)
-unfolding startOf answerOf outcomeOf startRecord scenarioOf
-begun text e =
-    let taken = taken-of (textRefusal text) (sym (outcome-of (textRefusal text) zeroRecord (startRecord (scenarioOf text))) ∙ e) in
-    let p = text-passed text taken in
-    rw taken (record {
-      valid = passed-valid text p;
-      site = refl;
-      grid = refl;
-      state = start-state (scenarioOf text) (p .counts);
-    })
+module _ (text : List ℕ) (e : startOf text .outcome ≡ outcomeOf 0) where
+  text-taken : textRefusal text ≡ 0
+  unfolding startOf outcomeOf
+  text-taken = taken-of (textRefusal text) (sym (outcome-of (textRefusal text) zeroRecord (startRecord (scenarioOf text))) ∙ e)
+
+  pub begun : Carries (scenarioOf text) (atRest (networkOf (scenarioGrid (scenarioOf text)))) (startOf text .«record»)
+  unfolding startOf answerOf outcomeOf startRecord scenarioOf
+  begun =
+      let p = text-passed text text-taken in
+      rw text-taken (record {
+        valid = passed-valid text p;
+        site = refl;
+        grid = refl;
+        state = start-state (scenarioOf text) (p .counts);
+      })
+
+  pub begun-mark : startOf text .«record» .mark ≡ pos 0
+  unfolding startOf answerOf startRecord
+  begun-mark = rw text-taken

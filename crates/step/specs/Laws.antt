@@ -57,7 +57,11 @@ module _ (rate dt : ℕ) (r : Record) where
     unfolding ranOf
     repeat-ran = rw (e, steps-course rate dt r n) (repeat-valid n (y .passed))
 
-    -- with V of the well and the inflow total as the machine reads them back
-    pub repeat-back : {well inflow : ℤ} → well ≡ v .course .«well_loss» → inflow ≡ v .course .inflow
-        → record { outcome = v .outcome; «record» = withCourse r (record { «well_loss» = well; pumped = v .course .pumped; inflow = inflow; time = v .course .time }) (v .losses); taken = v .taken } ≡ repeatOf r rate dt n
-    repeat-back w i = rw (w, i) repeat-ran
+    -- with V of the well, the inflow total and the mark as the machine reads them back
+    pub repeat-back : {well inflow mark : ℤ} → well ≡ v .course .«well_loss» → inflow ≡ v .course .inflow → mark ≡ v .course .mark
+        → record {
+          outcome = v .outcome;
+          «record» = withCourse r (record { «well_loss» = well; «well_depth» = v .course .«well_depth»; pumped = v .course .pumped; inflow = inflow; time = v .course .time; mark = mark }) (v .losses);
+          taken = v .taken;
+        } ≡ repeatOf r rate dt n
+    repeat-back w i m = rw (w, i, m) repeat-ran

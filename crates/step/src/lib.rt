@@ -41,12 +41,14 @@ pub fn repeat(record: Record, rate: u64, dt: u64, steps: u64) -> Repeated
     let losses = ran.losses;
     let well_after = course.well_loss;
     let inflow_after = course.inflow;
+    let mark_after = course.mark;
     let mut next = record;
     next.losses = losses;
     next.well_loss = well_after;
     next.pumped = course.pumped;
     next.inflow = inflow_after;
     next.time = course.time;
+    next.mark = mark_after;
     Repeated {
         outcome,
         record: next,

@@ -10,6 +10,7 @@ ghost use lib.IntN.{pos};
 ghost use lib.Signed.{_≤ℤ_};
 ghost use lib.ListN.{getD};
 ghost use Rattle.laws.specs.Fill.{fill};
+ghost use Rattle.laws.specs.Lists.{larger};
 ghost use Rattle.limits.specs.Limits.{drawdownLimit};
 ghost use Rattle.step_conditions.specs.Conditions.{Filled};
 ghost use Rattle.step_drawdowns.specs.Drawdowns.{Stands, Multiplied};
@@ -20,9 +21,11 @@ ghost use Rattle.step_judged.specs.Course.{tooDeep, Advancing, Advances}
 // Where a run has come to, beside the losses of its cells.
 pub struct Course {
     pub well_loss: i64, // V of the well, nl
+    pub well_depth: u64, // D of the well, µm
     pub pumped: u64, // pumped total, nl
     pub inflow: i64, // inflow total, nl
     pub time: u64, // µs
+    pub mark: i64, // the largest D that the well has had since start, µm
 }
 
 // What became of one step, and the course after it; a refused step leaves the course as it was.
@@ -80,6 +83,15 @@ fn too_deep<'a>(
     0
 }
 
+// The mark after a step that leaves the well at this D, both µm.
+fn raised(mark: i64, depth: u64) -> i64
+    requires { ⌜ depth ≤ drawdownLimit ⌝ }
+    ensures { λ r. ⌜ r ≡ larger mark (pos depth) ⌝ }
+{
+    let reached = depth as i64;
+    if mark <= reached { reached } else { mark }
+}
+
 // One step. A refused step leaves losses and course as they were. `depths`, `conductances`, `down` and `before` are worked in.
 pub fn advance<'a>(
     terms: Terms,
@@ -96,19 +108,21 @@ pub fn advance<'a>(
     down: &mut [i64; CELL_PLACES],
     before: &mut [i64; CELL_PLACES],
 ) -> Advanced
-    requires { ⌜ Advancing (lent terms (course .«well_loss») (course .inflow) (now areas) (now screen) (now horizontal) (now vertical) (now storages) (now losses)) (terms .intake) (course .pumped) (course .time) ⌝ }
+    requires { ⌜ Advancing (lent terms (course .«well_loss») (course .inflow) (now areas) (now screen) (now horizontal) (now vertical) (now storages) (now losses)) (terms .intake) course ⌝ }
     requires { ⌜ Multiplied (now multipliers) (now storages) × Stands (terms .«well_multiplier») (terms .«well_storage») ⌝ }
     requires { ⌜ Scratch (terms .layers) (terms .columns) (now horizontal) (now depths) (now conductances) (now down) (now before) ⌝ }
-    ensures { λ r. ⌜ Advances (lent terms (course .«well_loss») (course .inflow) (now (areas .entry)) (now (screen .entry)) (now (horizontal .entry)) (now (vertical .entry)) (now (storages .entry)) (now (losses .entry))) (terms .intake) (course .pumped) (course .time) r (now (losses .exit)) (now (depths .exit)) (now (conductances .exit)) (now (down .exit)) (now (before .exit)) ⌝ }
+    ensures { λ r. ⌜ Advances (lent terms (course .«well_loss») (course .inflow) (now (areas .entry)) (now (screen .entry)) (now (horizontal .entry)) (now (vertical .entry)) (now (storages .entry)) (now (losses .entry))) (terms .intake) course r (now (losses .exit)) (now (depths .exit)) (now (conductances .exit)) (now (down .exit)) (now (before .exit)) ⌝ }
 {
     if step_conditions::totals_pass(course.pumped, course.time, terms.rate, terms.dt) {
         return halted(9, course);
     }
     let well_loss = course.well_loss;
     let inflow = course.inflow;
+    let mark = course.mark;
     let swept = step_sweep::work_step(
         terms,
         well_loss,
+        course.well_depth,
         inflow,
         areas,
         screen,
@@ -129,15 +143,24 @@ pub fn advance<'a>(
         restore(before, terms.layers, terms.columns, losses);
         return halted(number, course);
     }
+    // 10 has let the step pass, so the well's D is within its bound
+    let well_depth = step_drawdowns::drawdown_by(
+        well_after,
+        terms.well_storage,
+        terms.well_multiplier,
+    );
+    let mark_after = raised(mark, well_depth);
     let pumped = course.pumped + terms.rate * terms.dt;
     let time = course.time + terms.dt;
     Advanced {
         outcome: Outcome::Taken,
         course: Course {
             well_loss: well_after,
+            well_depth,
             pumped,
             inflow: inflow_after,
             time,
+            mark: mark_after,
         },
     }
 }

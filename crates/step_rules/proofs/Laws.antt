@@ -1,8 +1,8 @@
 -- What is known where 14, 7 and 8 let a step pass, and the answers of a step.
 --     refused-14, refused-7, refused-8      the answer where one of these refuses
 --     asks-terms        what `step_judged::advance` asks
---     well-back, inflow-back                what the machine reads back of the course
---     stepped           what `step_judged::advance` gives is the step's answer
+--     well-back, inflow-back, mark-back     what the machine reads back of the course
+--     stepped           what `step_judged::advance` gives is the step's answer; course-kept: with the well's D in its course
 --     scratch-zeros     arrays of zeros, and C itself, may be worked in
 use mathlib.Core.Path.{_≡_, refl, sym, ap, _∙_}
 use mathlib.Core.Bool.{true, false, not}
@@ -17,12 +17,13 @@ use borrow.Author.Tests.{ltb-false}
 use mir.Syntax.{w64}
 use mir.Val.{toZ, ofZ}
 use Rattle.laws.specs.Fill.{getD-same}
+use Rattle.laws.specs.Integer as integer
 use Rattle.laws.specs.Lists.{first}
 use Rattle.laws.specs.Refusal.{first-is}
 use Rattle.laws.specs.Refusal.First.{hit, skip}
 use Rattle.laws.specs.Sums.{or-no}
 use Rattle.limits.specs.Limits.{rateLimit, lengthLimit}
-use Rattle.network.specs.Network.{Network, State, lossAt, storageAt, lossesAfter, moved, lengthOut, rateOrLengthOut, stable, unstable, totalsPass, wellTooDeep, tableTooDeep, stepTests}
+use Rattle.network.specs.Network.{Network, State, lossAt, storageAt, drawdown, lossesAfter, moved, lengthOut, rateOrLengthOut, stable, unstable, totalsPass, wellTooDeep, tableTooDeep, stepTests}
 use Rattle.network.specs.Grid.{place, onePerPlace, networkOf}
 use Rattle.network.specs.laws.Bounds.{losses-after}
 use Rattle.network.specs.laws.Places.{place-below}
@@ -33,12 +34,15 @@ use Rattle.record.specs.declared.Answer.{Answer}
 use Rattle.record.specs.declared.Outcome.the-variants.{Refused}
 use Rattle.record.specs.Record.{slot, gridOf, stateOf, outcomeOf, answerOf}
 use Rattle.validity.specs.Validity.{valid}
-use Rattle.validity.specs.Laws.{Valid, valid-record, valid-proper}
+use Rattle.validity.specs.Laws.{Valid, valid-record, valid-proper, depth-natural, mark-natural, mark-most}
 use Rattle.validity_drawdowns.specs.Drawdowns.{deeper}
 use Rattle.step_conditions.specs.Conditions.{totalsFull, Filled}
 use Rattle.step_conditions.specs.Laws.{well-network, table-network}
 use Rattle.step_sweep.specs.declared.Terms.{Terms}
-use Rattle.step_sweep.specs.Worked.{Lent, lent, lossesOf, Scratch}
+use Rattle.slot_places.specs.Slots.{depth-well}
+use Rattle.step_drawdowns.specs.Drawdowns.{depthOf}
+use Rattle.step_sweep.specs.Worked.{Lent, lent, wellAfter, lossesOf, Scratch}
+use Rattle.step_judged.specs.declared.Course.{Course}
 use Rattle.step_judged.specs.declared.Advanced.{Advanced}
 use Rattle.step_judged.specs.Course.{wellDeep, tableDeep, halts, courseAfter, lossesKept, advancedOf, keptOf, Advancing, Advances}
 use Rattle.step_judged.proofs.Laws as course
@@ -46,7 +50,7 @@ use Rattle.coefficient_cells.specs.Worked.{areasOf}
 use Rattle.step_places.specs.Terms.{termsOf, lentOf}
 use Rattle.step_places.specs.Worked.{workable, worked-well, worked-inflow, worked-losses, worked-cell}
 use Rattle.step_rules.specs.Step.{withState, stepRefusal, stepOf}
-use Rattle.step_rules.specs.Ready.{Ready, withCourse}
+use Rattle.step_rules.specs.Ready.{Ready, courseOf, withCourse}
 
 -- the answer of a refused step
 abbrev pub refused : ℕ → Record → Answer
@@ -126,12 +130,14 @@ module _ (r : Record) (rate dt : ℕ) where
         stored : (k : ℕ) → 1 ≤ getD (r .storages) (50 * 0 + (suc k - 1)) 0 → 0 < getD (r .storages) k 0
         stored k h = omega (arith, rw (top k) at h)
 
-    asks : Advancing (lentOf r rate dt) (r .site .intake) (r .pumped) (r .time)
+    asks : Advancing (lentOf r rate dt) (r .site .intake) (courseOf r)
     unfolding stateOf networkOf gridOf storageAt onePerPlace
     asks = record {
       workable = workable r v rate dt (y .steady) (small .0) (small .1);
       pumped = v .kept .pumped;
       time = v .kept .time;
+      wellDepth = sym (integer.natural (rw (depth-well r v) (depth-natural N (valid-proper r v) s (v .kept) 0)));
+      mark = (mark-natural r v, mark-most r v);
       intake = valid-proper r v .intake;
       thickness = omega (arith, numbers-hold (r .site) (v .numbers) .layer 0 (omega (arith, counted (y .passed) .layers-least)) .thickness-most);
       wellStorage = valid-proper r v .storages 0 (valid-proper r v .well);
@@ -146,6 +152,9 @@ module _ (r : Record) (rate dt : ℕ) where
     pub inflow-back : toZ w64 (ofZ w64 (r .inflow)) ≡ r .inflow
     inflow-back = course.inflow-back asks
 
+    pub mark-back : toZ w64 (ofZ w64 (r .mark)) ≡ r .mark
+    mark-back = course.mark-back asks
+
     -- ---- the answer
 
     -- the tests of 8 to 11 by slots are the network's
@@ -157,37 +166,55 @@ module _ (r : Record) (rate dt : ℕ) where
     unfolding totalsPass stateOf
     totals-test = refl
 
-    well-test : wellTooDeep N after ≡ wellDeep a (r .site .intake) (r .pumped) (r .time)
+    well-test : wellTooDeep N after ≡ wellDeep a (r .site .intake) (courseOf r)
     well-test = sym (ap (deeper (1000 * r .site .intake) (r .«well_storage»)) (worked-well r v rate dt) ∙ well-network r after)
 
-    table-test : tableTooDeep N after ≡ tableDeep a (r .site .intake) (r .pumped) (r .time)
+    table-test : tableTooDeep N after ≡ tableDeep a (r .site .intake) (courseOf r)
     table-test = sym (table-network r after (v .counts) (lossesOf a) cell-is)
 
     -- so the number that halts the step is the one that refuses it
-    refusal-is : stepRefusal r rate dt ≡ halts a (r .site .intake) (r .pumped) (r .time)
+    refusal-is : stepRefusal r rate dt ≡ halts a (r .site .intake) (courseOf r)
     unfolding stepRefusal stepTests first halts
     refusal-is = rw (y .passed, y .sized, stands, totals-test, well-test, table-test)
 
+    -- the well's D after the step
+    depth-is : depthOf (wellAfter a) (r .«well_storage») ≡ drawdown N after 0
+    unfolding depthOf drawdown storageAt networkOf gridOf onePerPlace
+    depth-is = rw (worked-well r v rate dt)
+
     -- the answer by that number
     by-number : (n : ℕ) → _≡_ {A = Answer}
-        (record { outcome = courseAfter a (r .site .intake) (r .pumped) (r .time) n .outcome; «record» = withCourse r (courseAfter a (r .site .intake) (r .pumped) (r .time) n .course) (lossesKept a (r .site .intake) (r .pumped) (r .time) n) })
+        (record { outcome = courseAfter a (r .site .intake) (courseOf r) n .outcome; «record» = withCourse r (courseAfter a (r .site .intake) (courseOf r) n .course) (lossesKept a (r .site .intake) (courseOf r) n) })
         (answerOf n r (withState r (moved N s rate dt)))
     unfolding courseAfter lossesKept answerOf outcomeOf withState moved stateOf
-    by-number zero = rw (worked-losses r v rate dt, worked-well r v rate dt, worked-inflow r v rate dt)
+    by-number zero = rw (worked-losses r v rate dt, depth-is, worked-well r v rate dt, worked-inflow r v rate dt)
     by-number (suc n) = refl
 
-    -- what `advance` asks and gives, by the terms of the record's run and its columns' areas
-    module _ {terms : Terms} {multiplier : ℕ} {areas : List ℕ} (e : terms ≡ termsOf r multiplier rate dt) (w : areas ≡ areasOf (r .site)) where
+    -- the well's D in the course is that of its V
+    depth-kept : (n : ℕ) (ls : List ℤ) → let x = courseAfter a (r .site .intake) (courseOf r) n in courseOf (withCourse r (x .course) ls) ≡ x .course
+    unfolding courseAfter
+    depth-kept zero ls = refl
+    depth-kept (suc n) ls = refl
+
+    -- what `advance` asks and gives, by the terms of the record's run, its columns' areas and its course
+    module _ {terms : Terms} {multiplier : ℕ} {areas : List ℕ} {c : Course} (e : terms ≡ termsOf r multiplier rate dt) (w : areas ≡ areasOf (r .site)) (k : courseOf r ≡ c) where
       abbrev held : Lent
       held = lent terms (r .«well_loss») (r .inflow) areas (r .screen) (r .horizontal) (r .vertical) (r .storages) (r .losses)
 
-      pub asks-terms : Advancing held (terms .intake) (r .pumped) (r .time)
-      asks-terms = rw (e, w) asks
+      pub asks-terms : Advancing held (terms .intake) c
+      asks-terms = rw (e, w, ← k) asks
 
-      pub stepped : {x : Advanced} {ls : List ℤ} {ds cs : List ℕ} {ws vs : List ℤ} → Advances held (terms .intake) (r .pumped) (r .time) x ls ds cs ws vs
-          → _≡_ {A = Answer} (record { outcome = x .outcome; «record» = withCourse r (x .course) ls }) (stepOf r rate dt)
-      unfolding stepOf advancedOf keptOf
-      stepped h = let g = rw (e, w) at h in rw (g .answer, g .losses, refusal-is) (by-number (halts a (r .site .intake) (r .pumped) (r .time)))
+      module _ {x : Advanced} {ls : List ℤ} {ds cs : List ℕ} {ws vs : List ℤ} (h : Advances held (terms .intake) c x ls ds cs ws vs) where
+        advanced : x ≡ advancedOf a (r .site .intake) (courseOf r)
+        advanced = (rw (e, w, ← k) at h) .answer
+
+        pub stepped : _≡_ {A = Answer} (record { outcome = x .outcome; «record» = withCourse r (x .course) ls }) (stepOf r rate dt)
+        unfolding stepOf advancedOf keptOf
+        stepped = rw (advanced, (rw (e, w, ← k) at h) .losses, refusal-is) (by-number (halts a (r .site .intake) (courseOf r)))
+
+        pub course-kept : courseOf (withCourse r (x .course) ls) ≡ x .course
+        unfolding advancedOf
+        course-kept = rw advanced (depth-kept (halts a (r .site .intake) (courseOf r)) ls)
 
 pub scratch-zeros : (layers columns : ℕ) (horizontal : List ℕ) → Scratch layers columns horizontal (replicate 1000 0) horizontal (replicate 1000 (pos 0)) (replicate 1000 (pos 0))
 scratch-zeros layers columns horizontal = record {

@@ -3,22 +3,26 @@
 --     same-grid        a record with another state has the same grid, and so the same network (same-network)
 --     same-state       and that state, where the state has one loss for each place
 --     step-valid       so 14 does not refuse the record that a step taken gives
-use mathlib.Core.Path.{_≡_, refl, sym, ap, ap₂, _∙_}
+use mathlib.Core.Path.{_≡_, refl, sym, ap, ap₂, subst, _∙_}
 use mathlib.Core.Bool.{Bool, true, false, cond, not, _||_}
-use Prim.Native.Nat.{ℕ, suc, _+_, _*_, _-_, _/_, _%_, _<_}
+use Prim.Native.Nat.{ℕ, zero, suc, _+_, _*_, _-_, _/_, _%_, _<_}
 use native.Mathlib.Nat.{zero-add}
 use native.Mathlib.Omega.{arith}
-use lib.IntN.{ℤ, pos}
+use lib.IntN.{ℤ, pos, natAbs}
 use lib.ListN.{length, getD}
-use borrow.Author.Tests.{lt-ltb}
+use lib.Signed.{_≤ℤ_}
+use borrow.Author.Tests.{lt-ltb, not-false}
+use Rattle.laws.specs.Integer.{natural, pos-≤ℤ, ≤ℤ-pos, ≤ℤ-up, not-past, most, larger-pos, most-bounds}
+use Rattle.laws.specs.Lists.{larger}
 use Rattle.laws.specs.Refusal.{passed}
 use Rattle.laws.specs.Rows.{all-from}
 use Rattle.laws.specs.Sums.{getD-map-range}
-use Rattle.network.specs.Network.{State, lossAt, moved, stepTests, refusal}
+use Rattle.network.specs.Network.{Network, State, lossAt, drawdown, moved, stable, unstable, wellTooDeep, stepTests, refusal}
 use Rattle.network.specs.Grid.{place, placeCount, networkOf, onePerPlace}
 use Rattle.network.specs.Kept.{Kept}
+use Rattle.network.specs.laws.Bounds.{depths-after}
 use Rattle.network.specs.laws.Places.{one-per-place}
-use Rattle.network.specs.laws.Preserve.{kept-moved}
+use Rattle.network.specs.laws.Preserve.{accepted, kept-moved}
 use Rattle.site.specs.Laws.{counts-hold}
 use Rattle.site.specs.Limited.{Counts}
 use Rattle.record.specs.declared.Record.{Record}
@@ -26,7 +30,7 @@ use Rattle.record.specs.Record.{slot, slots, isCell, gridOf, stateOf, outcomeOf
 use Rattle.record.specs.Laws.{outcome-of, kept-of}
 use Rattle.coefficient_slots.specs.Slots.{usedSlot, coefficientsUnused}
 use Rattle.validity.specs.Validity.{isZeroℤ, lossesUnused, valid}
-use Rattle.validity.specs.Laws.{Valid, valid-record, record-valid, valid-proper}
+use Rattle.validity.specs.Laws.{Marked, Valid, valid-record, record-valid, valid-proper, depth-natural, mark-natural}
 use Rattle.step_rules.specs.Step.{withState, stepRefusal, stepOf}
 
 module _ (r : Record) (rate dt : ℕ) where
@@ -82,10 +86,63 @@ module _ (r : Record) (s : State) where
       either true z = refl
       either false z = refl
 
-module _ (r : Record) (rate dt : ℕ) where
-  pub step-valid : valid r ≡ true → stepRefusal r rate dt ≡ 0 → valid (withState r (moved (networkOf (gridOf r)) (stateOf r) rate dt)) ≡ true
-  unfolding withState stepRefusal refusal coefficientsUnused networkOf
-  step-valid ok e = record-valid (withState r next) (record {
+-- ---- a step that 14 and 7 to 11 let pass
+module _ (r : Record) (rate dt : ℕ) (ok : valid r ≡ true) (e : stepRefusal r rate dt ≡ 0) where
+  abbrev N : Network
+  N = networkOf (gridOf r)
+
+  abbrev next : State
+  next = moved N (stateOf r) rate dt
+
+  v : Valid r
+  v = valid-record r ok
+
+  taken : refusal N (stateOf r) rate dt ≡ 0
+  unfolding stepRefusal refusal
+  taken = passed (not (valid r)) 13 (stepTests N (stateOf r) rate dt) e .1
+
+  kept : Kept N next
+  kept = kept-moved N (valid-proper r v) (stateOf r) (v .kept) rate dt taken
+
+  state-is : stateOf (withState r next) ≡ next
+  unfolding networkOf
+  state-is = same-state r next (counts-hold (r .site) (v .counts)) (kept .listed)
+
+  -- the mark and the well's D after the step
+  abbrev before : ℕ
+  before = natAbs (r .mark)
+
+  abbrev reached : ℕ
+  reached = natAbs (drawdown N (next .losses) 0)
+
+  before-is : r .mark ≡ pos before
+  before-is = natural (mark-natural r v)
+
+  reached-is : drawdown N (next .losses) 0 ≡ pos reached
+  reached-is = natural (depth-natural N (valid-proper r v) next kept 0)
+
+  mark-is : larger (r .mark) (drawdown N (next .losses) 0) ≡ pos (most before reached)
+  mark-is = ap₂ larger before-is reached-is ∙ larger-pos before reached
+
+  -- the maximum principle at the mark
+  under-mark : (p : ℕ) → p < N .places → drawdown N (next .losses) p ≤ℤ pos (most before reached)
+  unfolding moved unstable
+  under-mark zero h = subst (λ z. z ≤ℤ pos (most before reached)) (sym reached-is) (pos-≤ℤ (most-bounds before reached .1))
+  under-mark (suc p) h =
+      ≤ℤ-up _ (depths-after N (valid-proper r v) (stateOf r) (v .kept) dt (not-false (stable N dt) (accepted N (stateOf r) rate dt taken .steady)) rate before
+      (λ q k. subst (λ m. drawdown N (stateOf r .losses) q ≤ℤ m) before-is (v .marked .depths q k)) (suc p) h (λ z. absurd (omega arith)))
+      (most-bounds before reached .0)
+
+  marked : Marked N (next .losses) (larger (r .mark) (drawdown N (next .losses) 0))
+  unfolding wellTooDeep
+  marked = subst (Marked N (next .losses)) (sym mark-is) (record {
+    depths = under-mark;
+    intake = pos-≤ℤ (most-bounds before reached .2 _ (≤ℤ-pos (subst (λ m. m ≤ℤ pos (1000 * N .intake)) before-is (v .marked .intake))) (≤ℤ-pos (subst (λ z. z ≤ℤ pos (1000 * N .intake)) reached-is (not-past (kept .well)))));
+  })
+
+  pub step-valid : valid (withState r next) ≡ true
+  unfolding withState coefficientsUnused
+  step-valid = record-valid (withState r next) (record {
     counts = v .counts;
     numbers = v .numbers;
     radii = v .radii;
@@ -96,14 +153,6 @@ module _ (r : Record) (rate dt : ℕ) where
     coefficients = rw (same-grid r next) (v .coefficients);
     wellStorage = v .wellStorage;
     table = λ j one k. rw (same-grid r next) (v .table j one k);
-    kept = rw (same-grid r next, same-state r next (counts-hold (r .site) (v .counts)) (kept .listed)) kept;
+    kept = rw (same-grid r next, state-is) kept;
+    marked = rw (same-grid r next, state-is) marked;
   })
-    where
-      v : Valid r
-      v = valid-record r ok
-
-      next : State
-      next = moved (networkOf (gridOf r)) (stateOf r) rate dt
-
-      kept : Kept (networkOf (gridOf r)) next
-      kept = kept-moved (networkOf (gridOf r)) (valid-proper r v) (stateOf r) (v .kept) rate dt (passed (not (valid r)) 13 (stepTests (networkOf (gridOf r)) (stateOf r) rate dt) e .1)

@@ -4,12 +4,13 @@ use mathlib.Core.Path.{_≡_}
 use mathlib.Core.Bool.{true, false}
 use mathlib.Core.List.{List}
 use Prim.Native.Nat.{ℕ}
-use lib.IntN.{ℤ}
+use lib.IntN.{ℤ, natAbs}
 use Rattle.network.specs.Network.{rateOrLengthOut, stable}
 use Rattle.network.specs.Grid.{networkOf}
 use Rattle.record.specs.declared.Record.{Record}
 use Rattle.record.specs.Record.{gridOf}
 use Rattle.validity.specs.Validity.{valid}
+use Rattle.step_drawdowns.specs.Drawdowns.{depthOf}
 use Rattle.step_judged.specs.declared.Course.{Course}
 
 -- 14, 7 and 8 let a step pass
@@ -20,7 +21,14 @@ pub record Ready (r : Record) (rate dt : ℕ) : Type 0 where
 
 -- where a record's run has come to, beside the losses of its cells
 abbrev pub courseOf : Record → Course
-courseOf r = record { «well_loss» = r .«well_loss»; pumped = r .pumped; inflow = r .inflow; time = r .time }
+courseOf r = record {
+  «well_loss» = r .«well_loss»;
+  «well_depth» = natAbs (depthOf (r .«well_loss») (r .«well_storage»));
+  pumped = r .pumped;
+  inflow = r .inflow;
+  time = r .time;
+  mark = r .mark;
+}
 
 -- a record with another course and other losses
 abbrev pub withCourse : Record → Course → List ℤ → Record
@@ -36,4 +44,5 @@ withCourse r c losses = record {
   pumped = c .pumped;
   inflow = c .inflow;
   time = c .time;
+  mark = c .mark;
 }

@@ -3,15 +3,15 @@ use mathlib.Core.Bool.{not, cond}
 use mathlib.Core.List.{_∷_}
 use Prim.Native.Nat.{ℕ}
 use lib.IntN.{pos}
-use Rattle.laws.specs.Lists.{first}
-use Rattle.network.specs.Network.{State, lossAt, moved, stepTests}
+use Rattle.laws.specs.Lists.{larger, first}
+use Rattle.network.specs.Network.{State, lossAt, drawdown, moved, stepTests}
 use Rattle.network.specs.Grid.{place, networkOf}
 use Rattle.record.specs.declared.Record.{Record}
 use Rattle.record.specs.declared.Answer.{Answer}
 use Rattle.record.specs.Record.{slots, isCell, gridOf, stateOf, answerOf}
 use Rattle.validity.specs.Validity.{valid}
 
--- the record with another state: each cell's loss in its slot
+-- the record with another state: each cell's loss in its slot, and the mark, which the well's D there may raise (N1)
 unfoldable pub withState : Record → State → Record
 withState r s = record {
   site = r .site;
@@ -25,6 +25,7 @@ withState r s = record {
   pumped = s .pumped;
   inflow = s .inflow;
   time = s .time;
+  mark = larger (r .mark) (drawdown (networkOf (gridOf r)) (s .losses) 0);
 }
 
 -- the number of the first condition that forbids the step, 0 if none does: 14, then 7 to 11

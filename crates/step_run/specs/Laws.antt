@@ -95,7 +95,7 @@ module _ (rate dt : ℕ) where
     ran-none taken n e = rw e
 
     -- a step of which the outcome, the course and the losses are known
-    module _ {v : Advanced} {ls : List ℤ} (e : _≡_ {A = Answer} (record { outcome = v .outcome; «record» = withCourse r (v .course) ls }) (stepOf r rate dt)) where
+    module _ (v : Advanced) {ls : List ℤ} (e : _≡_ {A = Answer} (record { outcome = v .outcome; «record» = withCourse r (v .course) ls }) (stepOf r rate dt)) where
       pub ready-next : Ready r rate dt → Ready (withCourse r (v .course) ls) rate dt
       ready-next y = subst (λ q. Ready q rate dt) (sym (ap (λ x. x .«record») e)) (ready-step r rate dt y)
 
@@ -114,9 +114,9 @@ module _ (rate dt : ℕ) where
                 let j : taken + 1 ≡ suc taken = omega arith in
                 rw (k, j, ap (λ x. x .«record») e) (sym (onward-taken taken r (stepsOf rate dt (suc taken) n (stepOf r rate dt .«record»)) (stepRefusal r rate dt) (taken-of _ (number-is ∙ t))))
 
-        pub ran-refused : (k : ℕ) → v .outcome ≡ Outcome.Refused k → record { outcome = v .outcome; course = v .course; losses = ls; taken = taken } ≡ ranOf (stepsOf rate dt taken n r)
+        pub ran-refused : courseOf (withCourse r (v .course) ls) ≡ v .course → (k : ℕ) → v .outcome ≡ Outcome.Refused k → record { outcome = v .outcome; course = v .course; losses = ls; taken = taken } ≡ ranOf (stepsOf rate dt taken n r)
         unfolding stepsOf ranOf repeatedOf
-        ran-refused k t = by-count n h
+        ran-refused c k t = by-count n h
           where
             some : stepRefusal r rate dt ≡ 0 → ⊥
             some = refusal-of _ k (number-is ∙ t) .1
@@ -127,6 +127,7 @@ module _ (rate dt : ℕ) where
             by-count : (n : ℕ) → 0 < n → record { outcome = v .outcome; course = v .course; losses = ls; taken = taken } ≡ ranOf (stepsOf rate dt taken n r)
             by-count zero h = absurd (omega arith)
             by-count (suc n) h =
-                ap (λ q. record { outcome = v .outcome; course = courseOf q; losses = q .losses; taken = taken }) same
+                ap (λ x. record { outcome = v .outcome; course = x; losses = ls; taken = taken }) (sym c)
+                ∙ ap (λ q. record { outcome = v .outcome; course = courseOf q; losses = q .losses; taken = taken }) same
                 ∙ ap (λ o. record { outcome = o; course = courseOf r; losses = r .losses; taken = taken }) (sym number-is)
                 ∙ ap ranOf (sym (onward-refused taken r (stepsOf rate dt (suc taken) n (stepOf r rate dt .«record»)) (stepRefusal r rate dt) some))

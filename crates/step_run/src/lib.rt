@@ -6,7 +6,9 @@ use record::Record;
 use step_judged::Course;
 use step_sweep::Terms;
 ghost use mathlib.Core.Path.{_≡_};
+ghost use mathlib.Core.Bool.{true};
 ghost use Prim.Native.Nat.{_≤_};
+ghost use Rattle.validity.specs.Validity.{valid};
 ghost use Rattle.step_drawdowns.specs.Drawdowns.{Stands};
 ghost use Rattle.step_places.specs.Terms.{termsOf};
 ghost use Rattle.step_rules.specs.Ready.{Ready, courseOf};
@@ -60,15 +62,19 @@ fn terms_of(record: Record, rate: u64, dt: u64) -> Terms
 
 // Where a record's run has come to.
 fn course_of(record: Record) -> Course
+    requires { ⌜ valid «record» ≡ true ⌝ }
     ensures { λ r. ⌜ r ≡ courseOf «record» ⌝ }
 {
     let well_loss = record.well_loss;
     let inflow = record.inflow;
+    let mark = record.mark;
     Course {
         well_loss,
+        well_depth: step_drawdowns::drawdown(well_loss, record.well_storage),
         pumped: record.pumped,
         inflow,
         time: record.time,
+        mark,
     }
 }
 

@@ -79,11 +79,6 @@ depth-none S = go (10 ^ 6)
     go n = rw (zero-mul n, zero-div S)
 
 module _ (a : Lent) (ok : Workable a) where
-  -- V of the well at the start of the step is what its D may be taken of
-  pub well-within : {v : ℤ} → v ≡ a .wellLoss → (pos 0 ≤ℤ v) × (depthOf v (a .wellStorage) ≤ℤ pos drawdownLimit)
-  unfolding wellDepth
-  well-within e = rw e (ok .well)
-
   few : (a .layers ≤ 20) × (a .columns ≤ 50)
   few = (ok .layers .1, ok .columns .1)
 

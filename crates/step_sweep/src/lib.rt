@@ -1,8 +1,9 @@
 // One step worked on lent arrays by slot, all its faces from the drawdowns at its start; nothing is judged here.
 // C is in 10^-12 m²/s, S in nl per m, V and totals in nl, thicknesses in mm, areas in mm², Kv in nm/s, the rate in ml/s, dt in µs.
 ghost use mathlib.Core.Path.{_≡_};
+ghost use lib.IntN.{pos};
 ghost use lib.ListN.{length};
-ghost use Rattle.step_drawdowns.specs.Drawdowns.{Stands, Multiplied};
+ghost use Rattle.step_drawdowns.specs.Drawdowns.{depthOf, Multiplied};
 ghost use Rattle.step_sweep.specs.Worked.{lent, Workable, Scratch, Worked};
 use limits::CELL_PLACES;
 use limits::COLUMN_PLACES;
@@ -31,11 +32,13 @@ pub struct Terms {
     pub dt: u64, // µs
 }
 
-// One step: it moves the cells' losses, of which `before` then has what they were, and gives the well's loss and the inflow total. A multiplier of
-// 0 stands for none. `depths`, `conductances`, `down` and `before` are worked in: what they hold in the slots that a step does not fill stays.
+// One step: it moves the cells' losses, of which `before` then has what they were, and gives the well's loss and the inflow total. `well` is the
+// well's D at the start of the step, µm. A multiplier of 0 stands for none. `depths`, `conductances`, `down` and `before` are worked in: what they
+// hold in the slots that a step does not fill stays.
 pub fn work_step<'a>(
     terms: Terms,
     well_loss: i64,
+    well: u64,
     inflow: i64,
     areas: &'a [u64; COLUMN_PLACES],
     screen: &'a [u64; LAYER_PLACES],
@@ -50,7 +53,7 @@ pub fn work_step<'a>(
     before: &mut [i64; CELL_PLACES],
 ) -> Swept
     requires { ⌜ Workable (lent terms «well_loss» inflow (now areas) (now screen) (now horizontal) (now vertical) (now storages) (now losses)) ⌝ }
-    requires { ⌜ Multiplied (now multipliers) (now storages) × Stands (terms .«well_multiplier») (terms .«well_storage») ⌝ }
+    requires { ⌜ (pos well ≡ depthOf «well_loss» (terms .«well_storage»)) × Multiplied (now multipliers) (now storages) ⌝ }
     requires { ⌜ Scratch (terms .layers) (terms .columns) (now horizontal) (now depths) (now conductances) (now down) (now before) ⌝ }
     ensures { λ r. ⌜ Worked (lent terms «well_loss» inflow (now (areas .entry)) (now (screen .entry)) (now (horizontal .entry)) (now (vertical .entry)) (now (storages .entry)) (now (losses .entry))) r (now (losses .exit)) (now (depths .exit)) (now (conductances .exit)) (now (down .exit)) (now (before .exit)) ⌝ }
 {
@@ -59,8 +62,6 @@ pub fn work_step<'a>(
     let stored = terms.columns - 1;
     let dt = terms.dt;
     let well_pumped = step_losses::with_pumped(well_loss, terms.rate, dt);
-    // What is pumped moves the well's V, and not the D that its faces see: that is the one at the start of the step.
-    let well = step_drawdowns::drawdown_by(well_loss, terms.well_storage, terms.well_multiplier);
     step_drawdowns::drawdowns(losses, storages, multipliers, layers, stored, depths);
     step_flows::in_use(horizontal, depths, terms.thickness, stored, conductances);
     step_flows::down_flows(

@@ -1,17 +1,16 @@
 -- The tests that `valid` makes, in its order, and why they are those of 14.
 use mathlib.Core.Path.{_≡_, refl, sym, ap, ap₂, subst, _∙_}
-use mathlib.Core.Bool.{Bool, true, false, cond, not, _&&_, _||_, or-true, false≢true}
+use mathlib.Core.Bool.{Bool, true, false, not, _&&_, _||_, or-true, false≢true}
 use mathlib.Core.List.{Memᴰ·map, Memᴰ·of-map}
 use Prim.Native.Nat.{ℕ, zero, suc, _+_, _*_, _-_, _≤_, _<_}
-use native.Mathlib.Nat.{le-refl}
 use native.Mathlib.Omega.{arith}
-use borrow.Author.Tests.{leb-true, le-leb, lt-ltb, le-ltb, eqb-true, eq-eqb, not-true}
-use lib.Dec.{leb, ltb, eqb}
+use borrow.Author.Tests.{leb-true, le-leb, lt-leb, le-ltb, eqb-true, eq-eqb, not-true}
+use lib.Dec.{leb, eqb}
 use lib.IntN.{ℤ, pos, negsuc, natAbs, _+ℤ_}
 use lib.ListN.{getD}
 use lib.Signed.{nonNeg, ltZ, _≤ℤ_}
 use Rattle.laws.specs.All.{all-at, and-left, and-right}
-use Rattle.laws.specs.Integer.{natural, ≤ℤ-pos, ≤ℤ-up, not-past}
+use Rattle.laws.specs.Integer.{natural, ≤ℤ-pos, pos-≤ℤ, ≤ℤ-up, not-past}
 use Rattle.laws.specs.Rows.{both-hold, same-test, three-hold, four-hold, all-from}
 use Rattle.laws.specs.Sums.{mem-range, range-mem, none, none-at}
 use Rattle.limits.specs.Limits.{conductanceLimit, storageLimit, drawdownLimit}
@@ -31,8 +30,8 @@ use Rattle.validity_numbers.specs.Numbers.{siteHolds, siteUnused}
 use Rattle.validity_table.specs.Table.{tableKept}
 use Rattle.validity_totals.specs.Totals.{lossSlotHolds, lossSlotsHold, lossSum, totalsAgree}
 use Rattle.validity_totals.specs.Laws.{Totals, slot-natural, totals-agree}
-use Rattle.validity_drawdowns.specs.Drawdowns.{deeper, Stored, depthSlotHolds, depthSlotsHold}
-use Rattle.validity.specs.Laws.{TableKept, Valid, valid-record, record-valid, at-least-0, not-below-0}
+use Rattle.validity_drawdowns.specs.Drawdowns.{deeper, Stored, depthSlotHolds, depthSlotsHold, depthsHold}
+use Rattle.validity.specs.Laws.{TableKept, Marked, Valid, valid-record, record-valid, mark-natural, at-least-0, not-below-0}
 use Rattle.validity.specs.Validity.{lossesUnused, isZeroℤ, valid}
 use Rattle.validity.proofs.Losses.{loss-well, loss-cell, well-depth, cell-depth, loss-in}
 
@@ -51,10 +50,6 @@ within : (n : ℕ) (z : ℤ) → z ≤ℤ pos n → ltZ (pos n) z ≡ false
 within n (pos m) h = le-ltb n m (≤ℤ-pos h)
 within n (negsuc m) h = refl
 
-deep-limit : (t : Bool) {table : ℕ} → table ≤ drawdownLimit → cond t table drawdownLimit ≤ drawdownLimit
-deep-limit true h = h
-deep-limit false h = le-refl drawdownLimit
-
 module _ (r : Record) (counts : countsHold (r .site) ≡ true) (numbers : numbersHold (r .site) ≡ true) where
   few : r .site .layers ≤ 20
   few = counts-hold (r .site) counts .layers-most
@@ -71,19 +66,36 @@ module _ (r : Record) (counts : countsHold (r .site) ≡ true) (numbers : number
   table-limit : 1000 * getD (r .site .thickness) 0 0 ≤ drawdownLimit
   table-limit = omega (arith, numbers-hold (r .site) numbers .layer 0 layer-1 .thickness-most)
 
-  first-slots : (j : ℕ) → suc j < r .site .columns → ltb (slot 0 (suc j)) 50 ≡ true
+  first-slots : (j : ℕ) → suc j < r .site .columns → leb 50 (slot 0 (suc j)) ≡ false
   unfolding slot
-  first-slots j k = lt-ltb (50 * 0 + (suc j - 1)) 50 (omega (arith, narrow))
+  first-slots j k = lt-leb 50 (50 * 0 + (suc j - 1)) (omega (arith, narrow))
 
-  later-slots : (i j : ℕ) → ltb (slot (suc i) j) 50 ≡ false
+  later-slots : (i j : ℕ) → leb 50 (slot (suc i) j) ≡ true
   unfolding slot
-  later-slots i j = le-ltb (50 * suc i + (j - 1)) 50 (omega arith)
+  later-slots i j = le-leb 50 (50 * suc i + (j - 1)) (omega arith)
+
+  intake-limit : 1000 * r .site .intake ≤ drawdownLimit
+  intake-limit = omega (arith, numbers-hold (r .site) numbers .well .intake-most)
+
+  -- the mark, where it is not below 0
+  abbrev top : ℕ
+  top = natAbs (r .mark)
+
+  -- the table, by which the slots of layer 1 are held too
+  abbrev table : ℕ
+  table = 1000 * getD (r .site .thickness) 0 0
+
+  -- D of a slot
+  abbrev deeperAt : ℕ → ℕ → Bool
+  deeperAt limit k = deeper limit (getD (r .storages) k 0) (getD (r .losses) k (pos 0))
+
+  abbrev depthsOf : Bool
+  depthsOf = depthsHold (r .site .layers) (r .site .columns) table (1000 * r .site .intake) (r .mark) (r .storages) (r .losses) (r .«well_storage») (r .«well_loss»)
 
   -- where the tests hold
   module _ (slots : lossSlotsHold (r .site .layers) (r .site .columns) (r .losses) ≡ true)
       (totals : totalsAgree (r .losses) (r .«well_loss») (r .inflow) (r .pumped) (r .time) ≡ true)
-      (well : not (deeper (1000 * r .site .intake) (r .«well_storage») (r .«well_loss»)) ≡ true)
-      (depths : depthSlotsHold (r .site .layers) (r .site .columns) (1000 * getD (r .site .thickness) 0 0) (r .storages) (r .losses) ≡ true) where
+      (depths : depthsOf ≡ true) where
     unused : lossesUnused r ≡ true
     unfolding lossesUnused isCell lossSlotsHold lossSlotHolds
     unused = all-from _ 1000 (λ k h. unused-zero (usedSlot (isCell (r .site)) k) (getD (r .losses) k (pos 0)) (all-at _ 1000 k slots h))
@@ -111,24 +123,47 @@ module _ (r : Record) (counts : countsHold (r .site) ≡ true) (numbers : number
         regroup : (a b c : ℕ) {d : ℕ} → b + (a + c) ≡ d → a + b + c ≡ d
         regroup a b c e = omega arith
 
+    -- the tests of the mark
+    tested : (nonNeg (r .mark) ≡ true) × (leb top (1000 * r .site .intake) ≡ true) × (not (deeper top (r .«well_storage») (r .«well_loss»)) ≡ true)
+        × (depthSlotsHold (r .site .layers) (r .site .columns) table top (r .storages) (r .losses) ≡ true)
+    unfolding depthsHold
+    tested = four-hold (nonNeg (r .mark)) (leb top (1000 * r .site .intake)) (not (deeper top (r .«well_storage») (r .«well_loss»))) (depthSlotsHold (r .site .layers) (r .site .columns) table top (r .storages) (r .losses)) depths
+
+    mark-is : r .mark ≡ pos top
+    mark-is = natural (at-least-0 (r .mark) (tested .0))
+
+    top-most : top ≤ 1000 * r .site .intake
+    top-most = leb-true _ _ (tested .1)
+
     slot-depth : (i j : ℕ) → i < r .site .layers → suc j < r .site .columns
-        → deeper (cond (ltb (slot i (suc j)) 50) (1000 * getD (r .site .thickness) 0 0) drawdownLimit) (getD (r .storages) (slot i (suc j)) 0) (getD (r .losses) (slot i (suc j)) (pos 0)) ≡ false
+        → (not (deeperAt top (slot i (suc j))) && (leb 50 (slot i (suc j)) || not (deeperAt table (slot i (suc j))))) ≡ true
     unfolding depthSlotsHold depthSlotHolds
     slot-depth i j h k =
-        not-true _ (used-held (usedSlot (inside (r .site .layers) (r .site .columns)) (slot i (suc j))) _ true
-        (all-at _ 1000 (slot i (suc j)) depths (slot-below i (suc j) (omega (arith, few)) (omega (arith, narrow))))
-        (used-slot (r .site .layers) (r .site .columns) i (suc j) h (omega arith) k narrow))
+        used-held (usedSlot (inside (r .site .layers) (r .site .columns)) (slot i (suc j))) _ true
+        (all-at _ 1000 (slot i (suc j)) (tested .3) (slot-below i (suc j) (omega (arith, few)) (omega (arith, narrow))))
+        (used-slot (r .site .layers) (r .site .columns) i (suc j) h (omega arith) k narrow)
 
-    table-depth : (j : ℕ) → 1 ≤ j → j < r .site .columns → ltZ (pos (1000 * getD (r .site .thickness) 0 0)) (drawdown (networkOf (gridOf r)) (stateOf r .losses) (place (gridOf r) 0 j)) ≡ false
+    table-depth : (j : ℕ) → 1 ≤ j → j < r .site .columns → ltZ (pos table) (drawdown (networkOf (gridOf r)) (stateOf r .losses) (place (gridOf r) 0 j)) ≡ false
     table-depth zero a k = absurd (omega arith)
-    table-depth (suc j) a k = sym (cell-depth r _ 0 j layer-1 k) ∙ rw (first-slots j k) at (slot-depth 0 j layer-1 k)
+    table-depth (suc j) a k =
+        let held = rw (first-slots j k) at (and-right (not (deeperAt top (slot 0 (suc j)))) (leb 50 (slot 0 (suc j)) || not (deeperAt table (slot 0 (suc j)))) (slot-depth 0 j layer-1 k)) in
+        sym (cell-depth r table 0 j layer-1 k) ∙ not-true _ held
+
+    -- no D is over the mark
+    under-mark : (p : ℕ) → p < networkOf (gridOf r) .places → drawdown (networkOf (gridOf r)) (stateOf r .losses) p ≤ℤ pos top
+    unfolding networkOf gridOf
+    under-mark =
+        by-place (gridOf r) (λ p. drawdown (networkOf (gridOf r)) (stateOf r .losses) p ≤ℤ pos top)
+        (not-past (sym (well-depth r top) ∙ not-true _ (tested .2)))
+        (λ i j h k. not-past (sym (cell-depth r top i j h k) ∙ not-true _ (and-left (not (deeperAt top (slot i (suc j)))) (leb 50 (slot i (suc j)) || not (deeperAt table (slot i (suc j)))) (slot-depth i j h k))))
+
+    marked : Marked (networkOf (gridOf r)) (stateOf r .losses) (r .mark)
+    unfolding networkOf gridOf
+    marked = subst (Marked (networkOf (gridOf r)) (stateOf r .losses)) (sym mark-is) (record { depths = under-mark; intake = pos-≤ℤ top-most })
 
     well-within : wellTooDeep (networkOf (gridOf r)) (stateOf r .losses) ≡ false
-    well-within = sym (well-depth r) ∙ not-true _ well
-
-    well-limit : drawdown (networkOf (gridOf r)) (stateOf r .losses) 0 ≤ℤ pos drawdownLimit
-    unfolding wellTooDeep networkOf gridOf
-    well-limit = ≤ℤ-up _ (not-past well-within) (omega (arith, numbers-hold (r .site) numbers .well .intake-most))
+    unfolding wellTooDeep networkOf gridOf placeCount
+    well-within = within (1000 * r .site .intake) _ (≤ℤ-up _ (under-mark 0 (omega arith)) top-most)
 
     kept : Kept (networkOf (gridOf r)) (stateOf r)
     unfolding stateOf networkOf gridOf tableTooDeep storedColumns
@@ -144,9 +179,7 @@ module _ (r : Record) (counts : countsHold (r .site) ≡ true) (numbers : number
           let cell = Memᴰ·of-map (place (gridOf r) 0) (storedColumns (gridOf r)) m in
           let column = range-mem 1 (r .site .columns - 1) (cell .1) in
           subst (λ p. ltZ (pos (1000 * getD (r .site .thickness) 0 0)) (drawdown (networkOf (gridOf r)) (stateOf r .losses) p) ≡ false) (cell .2) (table-depth (cell .0) (omega arith) (omega (arith, one))));
-      depths = by-place (gridOf r) (λ p. drawdown (networkOf (gridOf r)) (stateOf r .losses) p ≤ℤ pos drawdownLimit)
-          well-limit
-          (λ i j h k. ≤ℤ-up _ (not-past (sym (cell-depth r _ i j h k) ∙ slot-depth i j h k)) (deep-limit (ltb (slot i (suc j)) 50) table-limit));
+      depths = λ p h. ≤ℤ-up _ (under-mark p h) (omega (arith, top-most, intake-limit));
     }
 
   -- where 14 lets the record pass
@@ -178,31 +211,46 @@ module _ (r : Record) (counts : countsHold (r .site) ≡ true) (numbers : number
         both-hold (both-hold (both-hold (both-hold kept-well (not-below-0 (r .inflow) (kept .inflow))) (le-leb _ _ (kept .pumped))) (le-leb _ _ (kept .time)))
         (eq-eqb (lossSum 1000 (r .losses) + (natAbs (r .«well_loss») + natAbs (r .inflow))) (r .pumped) (omega (arith, ap natAbs sum)))
 
-    well-passes : not (deeper (1000 * r .site .intake) (r .«well_storage») (r .«well_loss»)) ≡ true
-    well-passes = ap not (well-depth r ∙ kept .well)
+    module _ (marked : Marked (networkOf (gridOf r)) (stateOf r .losses) (r .mark)) (natural-mark : pos 0 ≤ℤ r .mark) where
+      mark-same : r .mark ≡ pos top
+      mark-same = natural natural-mark
 
-    cell-passes : (i j : ℕ) → i < r .site .layers → suc j < r .site .columns
-        → not (deeper (cond (ltb (slot i (suc j)) 50) (1000 * getD (r .site .thickness) 0 0) drawdownLimit) (getD (r .storages) (slot i (suc j)) 0) (getD (r .losses) (slot i (suc j)) (pos 0))) ≡ true
-    unfolding tableTooDeep networkOf gridOf storedColumns
-    cell-passes zero j h k =
-        let on-table = none-at _ (kept .table) (Memᴰ·map (place (gridOf r) 0) (mem-range {p = suc j} (r .site .columns - 1) (omega arith) (omega arith))) in
-        rw (first-slots j k) (ap not (cell-depth r _ 0 j h k ∙ on-table))
-    cell-passes (suc i) j h k =
-        rw (later-slots i (suc j))
-        (ap not (cell-depth r _ (suc i) j h k ∙ within drawdownLimit _ (kept .depths (place (gridOf r) (suc i) (suc j)) (place-below (gridOf r) (suc i) j h k))))
+      mark-passes : leb top (1000 * r .site .intake) ≡ true
+      unfolding networkOf gridOf
+      mark-passes = le-leb _ _ (≤ℤ-pos (subst (λ m. m ≤ℤ pos (1000 * r .site .intake)) mark-same (marked .intake)))
 
-    depth-slots : depthSlotsHold (r .site .layers) (r .site .columns) (1000 * getD (r .site .thickness) 0 0) (r .storages) (r .losses) ≡ true
-    unfolding depthSlotsHold depthSlotHolds
-    depth-slots =
-        all-from _ 1000 (λ k h. held-from (usedSlot (inside (r .site .layers) (r .site .columns)) k) _ true
-        (by-slot (r .site .layers) (r .site .columns)
-        (λ k. not (deeper (cond (ltb k 50) (1000 * getD (r .site .thickness) 0 0) drawdownLimit) (getD (r .storages) k 0) (getD (r .losses) k (pos 0))) ≡ true) at-cell k)
-        (or-true (usedSlot (inside (r .site .layers) (r .site .columns)) k)))
-      where
-        at-cell : (i j : ℕ) → i < r .site .layers → 1 ≤ j → j < r .site .columns
-            → not (deeper (cond (ltb (slot i j) 50) (1000 * getD (r .site .thickness) 0 0) drawdownLimit) (getD (r .storages) (slot i j) 0) (getD (r .losses) (slot i j) (pos 0))) ≡ true
-        at-cell i zero h a k = absurd (omega arith)
-        at-cell i (suc j) h a k = cell-passes i j h k
+      under : (p : ℕ) → p < networkOf (gridOf r) .places → ltZ (pos top) (drawdown (networkOf (gridOf r)) (stateOf r .losses) p) ≡ false
+      under p h = within top _ (subst (λ m. drawdown (networkOf (gridOf r)) (stateOf r .losses) p ≤ℤ m) mark-same (marked .depths p h))
+
+      well-passes : not (deeper top (r .«well_storage») (r .«well_loss»)) ≡ true
+      unfolding networkOf placeCount
+      well-passes = ap not (well-depth r top ∙ under 0 (omega arith))
+
+      cell-passes : (i j : ℕ) → i < r .site .layers → suc j < r .site .columns
+          → (not (deeperAt top (slot i (suc j))) && (leb 50 (slot i (suc j)) || not (deeperAt table (slot i (suc j))))) ≡ true
+      unfolding tableTooDeep networkOf gridOf storedColumns
+      cell-passes i j h k = both-hold (ap not (cell-depth r top i j h k ∙ under (place (gridOf r) i (suc j)) (place-below (gridOf r) i j h k))) (in-table i h)
+        where
+          in-table : (i : ℕ) → i < r .site .layers → (leb 50 (slot i (suc j)) || not (deeperAt table (slot i (suc j)))) ≡ true
+          in-table zero h =
+              let on-table = none-at _ (kept .table) (Memᴰ·map (place (gridOf r) 0) (mem-range {p = suc j} (r .site .columns - 1) (omega arith) (omega arith))) in
+              rw (first-slots j k) (ap not (cell-depth r table 0 j h k ∙ on-table))
+          in-table (suc i) h = rw (later-slots i (suc j))
+
+      depth-slots : depthSlotsHold (r .site .layers) (r .site .columns) table top (r .storages) (r .losses) ≡ true
+      unfolding depthSlotsHold depthSlotHolds
+      depth-slots =
+          all-from _ 1000 (λ k h. held-from (usedSlot (inside (r .site .layers) (r .site .columns)) k) _ true
+          (by-slot (r .site .layers) (r .site .columns) (λ k. (not (deeperAt top k) && (leb 50 k || not (deeperAt table k))) ≡ true) at-cell k)
+          (or-true (usedSlot (inside (r .site .layers) (r .site .columns)) k)))
+        where
+          at-cell : (i j : ℕ) → i < r .site .layers → 1 ≤ j → j < r .site .columns → (not (deeperAt top (slot i j)) && (leb 50 (slot i j) || not (deeperAt table (slot i j)))) ≡ true
+          at-cell i zero h a k = absurd (omega arith)
+          at-cell i (suc j) h a k = cell-passes i j h k
+
+      depths-pass : depthsOf ≡ true
+      unfolding depthsHold
+      depths-pass = both-hold (both-hold (both-hold (not-below-0 (r .mark) natural-mark) mark-passes) well-passes) depth-slots
 
 module _ (r : Record) where
   abbrev pub numbersPass : Bool
@@ -223,14 +271,11 @@ module _ (r : Record) where
   abbrev pub totalsPass : Bool
   totalsPass = totalsAgree (r .losses) (r .«well_loss») (r .inflow) (r .pumped) (r .time)
 
-  abbrev pub wellPasses : Bool
-  wellPasses = not (deeper (1000 * r .site .intake) (r .«well_storage») (r .«well_loss»))
-
   abbrev pub depthsPass : Bool
-  depthsPass = depthSlotsHold (r .site .layers) (r .site .columns) (1000 * getD (r .site .thickness) 0 0) (r .storages) (r .losses)
+  depthsPass = depthsHold (r .site .layers) (r .site .columns) (1000 * getD (r .site .thickness) 0 0) (1000 * r .site .intake) (r .mark) (r .storages) (r .losses) (r .«well_storage») (r .«well_loss»)
 
   unfoldable pub checked : Bool
-  checked = numbersPass && arraysPass && storagePasses && tablePasses && (lossesPass && totalsPass) && (wellPasses && depthsPass)
+  checked = numbersPass && arraysPass && storagePasses && tablePasses && (lossesPass && totalsPass) && depthsPass
 
   -- what the tests before them give the later ones
   pub site-passed : numbersPass ≡ true → (countsHold (r .site) ≡ true) × (numbersHold (r .site) ≡ true) × (radiiHold (r .site) ≡ true) × (screenHolds (r .site) ≡ true)
@@ -284,15 +329,13 @@ module _ (r : Record) where
   forth : checked ≡ true → Valid r
   unfolding checked
   forth e =
-      let all = four-hold (numbersPass && arraysPass && storagePasses) tablePasses (lossesPass && totalsPass) (wellPasses && depthsPass) e in
+      let all = four-hold (numbersPass && arraysPass && storagePasses) tablePasses (lossesPass && totalsPass) depthsPass e in
       let held = three-hold numbersPass arraysPass storagePasses (all .0) in
       let numbers = held .0 in
       let site = site-passed numbers in
       let coefficients : (coefficientsHold (gridOf r) && coefficientsUnused r) ≡ true = sym (slots-coefficients r (site .0)) ∙ held .1 in
       let losses = and-left lossesPass totalsPass (all .2) in
       let totals = and-right lossesPass totalsPass (all .2) in
-      let well = and-left wellPasses depthsPass (all .3) in
-      let depths = and-right wellPasses depthsPass (all .3) in
       record {
         counts = site .0;
         numbers = site .1;
@@ -300,11 +343,12 @@ module _ (r : Record) where
         screen = site .3;
         siteUnused = and-right (siteHolds (r .site)) (siteUnused (r .site)) numbers;
         coefficientsUnused = and-right (coefficientsHold (gridOf r)) (coefficientsUnused r) coefficients;
-        lossesUnused = unused r (site .0) (site .1) losses totals well depths;
+        lossesUnused = unused r (site .0) (site .1) losses totals (all .3);
         coefficients = coefficients-hold (gridOf r) (and-left (coefficientsHold (gridOf r)) (coefficientsUnused r) coefficients);
         wellStorage = eqb-true _ _ (held .2);
         table = table-forth (all .1);
-        kept = kept r (site .0) (site .1) losses totals well depths;
+        kept = kept r (site .0) (site .1) losses totals (all .3);
+        marked = marked r (site .0) (site .1) losses totals (all .3);
       }
 
   back : Valid r → checked ≡ true
@@ -316,7 +360,7 @@ module _ (r : Record) where
       (eq-eqb _ _ (v .wellStorage)))
       (table-back (v .table)))
       (both-hold (loss-slots r (v .counts) (v .numbers) (v .kept) (v .lossesUnused)) (total-agrees r (v .counts) (v .numbers) (v .kept) (v .lossesUnused))))
-      (both-hold (well-passes r (v .counts) (v .numbers) (v .kept) (v .lossesUnused)) (depth-slots r (v .counts) (v .numbers) (v .kept) (v .lossesUnused)))
+      (depths-pass r (v .counts) (v .numbers) (v .kept) (v .lossesUnused) (v .marked) (mark-natural r v))
 
   pub checked-valid : checked ≡ valid r
   checked-valid = same-test checked (valid r) (λ e. record-valid r (forth e)) (λ e. back (valid-record r e))

@@ -14,7 +14,7 @@ use Rattle.laws.specs.Integer.{natural}
 use Rattle.laws.specs.Lists.{ifℤ, sumℕ, range}
 use Rattle.laws.specs.RowSums.{sum-shift, sum-cut, sum-rows, sum-places}
 use Rattle.laws.specs.Sums.{sumℕ-ext, sumℕ-zero, sumℕ-map, sumℕ-flatMap, sumℤ-ext, sumℤ-pos, range-mem}
-use Rattle.network.specs.Network.{isPlace, lossAt, storageAt, drawdown, lossIn, wellTooDeep}
+use Rattle.network.specs.Network.{isPlace, lossAt, storageAt, drawdown, lossIn}
 use Rattle.network.specs.Grid.{storedColumns, layersOf, place, onePerPlace, networkOf}
 use Rattle.network.specs.laws.Places.{getD-one, length-one}
 use Rattle.record.specs.declared.Record.{Record}
@@ -78,9 +78,9 @@ module _ (r : Record) where
   storage-cell i j h k = getD-one (gridOf r) (r .«well_storage») (λ i j. getD (r .storages) (slot i j) 0) 0 i j h k
 
   -- D past a limit, by slot and by place
-  pub well-depth : deeper (1000 * r .site .intake) (r .«well_storage») (r .«well_loss») ≡ wellTooDeep (networkOf (gridOf r)) (stateOf r .losses)
-  unfolding deeper wellTooDeep drawdown lossAt storageAt stateOf networkOf gridOf onePerPlace
-  well-depth = refl
+  pub well-depth : (limit : ℕ) → deeper limit (r .«well_storage») (r .«well_loss») ≡ ltZ (pos limit) (drawdown (networkOf (gridOf r)) (stateOf r .losses) 0)
+  unfolding deeper drawdown lossAt storageAt stateOf networkOf gridOf onePerPlace
+  well-depth limit = refl
 
   pub cell-depth : (limit i j : ℕ) → i < r .site .layers → suc j < r .site .columns
       → deeper limit (getD (r .storages) (slot i (suc j)) 0) (getD (r .losses) (slot i (suc j)) (pos 0)) ≡ ltZ (pos limit) (drawdown (networkOf (gridOf r)) (stateOf r .losses) (place (gridOf r) i (suc j)))

@@ -1,30 +1,35 @@
 -- What `valid` says of a record, for the proofs of this and other crates: laws only, nothing to believe.
 --     kept-from, from-kept       the tests of a state's totals and drawdowns, and network's Kept
+--     depth-natural              no D of a state that is Kept is below 0
+--     Marked                     what the mark's clauses say
 --     Valid                      what a record that 14 lets pass is
 --     valid-record               from the test; record-valid: back to it
 --     valid-proper               the network of such a record is one on which steps can be taken
+--     mark-natural, mark-most    its mark is not below 0, and at most 10^9
 --     valid-limits, table-fits   its numbers are in their limits, and C between layers 1 and 2 at s = 0 fits a word
 --     zero-refused               14 refuses the all-zero record
 use mathlib.Core.Path.{_≡_, refl, ap}
 use mathlib.Core.Bool.{Bool, true, false, not, _&&_, false≢true}
-use Prim.Native.Nat.{ℕ, _^_, _≤_, _<_, zero-le}
+use mathlib.Core.List.{List}
+use Prim.Native.Nat.{ℕ, _*_, _^_, _≤_, _<_, zero-le}
 use native.Mathlib.Nat.{le-antisymm, le-refl}
 use native.Mathlib.Omega.{arith}
 use borrow.Author.Tests.{leb-true, le-leb, eqb-true, eq-eqb, not-true}
 use lib.Dec.{T, leb, ltb, eqb}
-use lib.IntN.{ℤ, pos, negsuc, _+ℤ_}
+use lib.IntN.{ℤ, pos, negsuc, natAbs, _+ℤ_}
 use lib.ListN.{length}
 use lib.Signed.{leZ, nonNeg, _≤ℤ_, leZ-yes}
 use Rattle.laws.specs.Lists.{allBelow, every}
 use Rattle.laws.specs.All.{all-at, and-left, and-right}
 use Rattle.laws.specs.Every.{every-at}
-use Rattle.laws.specs.Integer.{pos-≤ℤ}
+use Rattle.laws.specs.Integer.{natural, pos-≤ℤ, ≤ℤ-up}
 use Rattle.laws.specs.Pointwise.{every-from}
 use Rattle.laws.specs.Rows.{both-hold, three-hold, four-hold, all-from}
 use Rattle.limits.specs.Limits.{totalLimit, drawdownLimit}
 use Rattle.network.specs.Network.{Network, State, isPlace, lossAt, drawdown, lossIn, wellTooDeep, tableTooDeep}
 use Rattle.network.specs.Grid.{networkOf}
 use Rattle.network.specs.Kept.{Proper, Kept}
+use Rattle.network.specs.laws.Bounds.{depth-is}
 use Rattle.network.specs.laws.Places.{length-one}
 use Rattle.network.specs.laws.Proper.{proper-grid}
 use Rattle.geometry.specs.Geometry.{wellStorage}
@@ -38,7 +43,7 @@ use Rattle.coefficient_cells.specs.Cells.{downOf}
 use Rattle.coefficient_cells.specs.Laws.{judged-site}
 use Rattle.coefficient_cells.specs.Worked.{InLimits}
 use Rattle.validity_numbers.specs.Numbers.{siteHolds, siteUnused}
-use Rattle.validity.specs.Validity.{lossesUnused, tableHolds, equalℤ, totalsHold, drawdownsHold, valid}
+use Rattle.validity.specs.Validity.{lossesUnused, tableHolds, equalℤ, totalsHold, drawdownsHold, markHolds, valid}
 
 -- ---- tests of integers
 so : {b : Bool} → b ≡ true → T b
@@ -103,6 +108,30 @@ module _ (N : Network) (s : State) (kept : Kept N s) where
       both-hold (both-hold (ap not (kept .well)) (ap not (kept .table)))
       (all-from _ (N .places) (λ p h. holds _ (kept .depths p h .le)))
 
+-- no D of such a state is below 0
+pub depth-natural : (N : Network) → Proper N → (s : State) → Kept N s → (p : ℕ) → pos 0 ≤ℤ drawdown N (s .losses) p
+depth-natural N proper s kept p = rw (depth-is N proper s kept p) (pos-≤ℤ zero-le)
+
+-- ---- the mark: no D over it, and itself not over 1000×p
+pub record Marked (N : Network) (vs : List ℤ) (mark : ℤ) : Type 0 where
+  pub depths : (p : ℕ) → p < N .places → drawdown N vs p ≤ℤ mark
+  pub intake : mark ≤ℤ pos (1000 * N .intake)
+
+module _ (N : Network) (vs : List ℤ) (mark : ℤ) where
+  marked-from : markHolds N vs mark ≡ true → Marked N vs mark
+  unfolding markHolds
+  marked-from e =
+      let deep = allBelow (N .places) (λ p. leZ (drawdown N vs p) mark) in
+      let high = leZ mark (pos (1000 * N .intake)) in
+      record {
+        depths = λ p h. leZ-yes (so (all-at _ (N .places) p (and-left deep high e) h));
+        intake = leZ-yes (so (and-right deep high e));
+      }
+
+  from-marked : Marked N vs mark → markHolds N vs mark ≡ true
+  unfolding markHolds
+  from-marked m = both-hold (all-from _ (N .places) (λ p h. holds _ (m .depths p h .le))) (holds _ (m .intake .le))
+
 -- ---- a record that 14 lets pass
 -- its C between layers 1 and 2, column by column
 abbrev pub TableKept : Record → Type 0
@@ -120,6 +149,7 @@ pub record Valid (r : Record) : Type 0 where
   pub wellStorage : r .«well_storage» ≡ wellStorage (r .site .«water_area»)
   pub table : TableKept r
   pub kept : Kept (networkOf (gridOf r)) (stateOf r)
+  pub marked : Marked (networkOf (gridOf r)) (stateOf r .losses) (r .mark)
 
 module _ (r : Record) where
   losses-listed : length (stateOf r .losses) ≡ networkOf (gridOf r) .places
@@ -141,8 +171,9 @@ module _ (r : Record) where
       let totals = totalsHold (networkOf (gridOf r)) (stateOf r) in
       let depths = drawdownsHold (networkOf (gridOf r)) (stateOf r .losses) in
       let slots = siteHolds (r .site) && siteUnused (r .site) && coefficientsUnused r && lossesUnused r in
-      let last = four-hold (slots && coefficientsHold (gridOf r) && well) (tableHolds r) totals depths e in
-      let stored = three-hold slots (coefficientsHold (gridOf r)) well (last .0) in
+      let mark = markHolds (networkOf (gridOf r)) (stateOf r .losses) (r .mark) in
+      let last = four-hold (slots && coefficientsHold (gridOf r) && well && tableHolds r) totals depths mark e in
+      let stored = four-hold slots (coefficientsHold (gridOf r)) well (tableHolds r) (last .0) in
       let zeros = four-hold (siteHolds (r .site)) (siteUnused (r .site)) (coefficientsUnused r) (lossesUnused r) (stored .0) in
       let site = four-hold (countsHold (r .site)) (numbersHold (r .site)) (radiiHold (r .site)) (screenHolds (r .site)) (zeros .0) in
       record {
@@ -155,21 +186,23 @@ module _ (r : Record) where
         lossesUnused = zeros .3;
         coefficients = coefficients-hold (gridOf r) (stored .1);
         wellStorage = eqb-true _ _ (stored .2);
-        table = table-columns (last .1);
-        kept = kept-from (networkOf (gridOf r)) (stateOf r) losses-listed (last .2) (last .3);
+        table = table-columns (stored .3);
+        kept = kept-from (networkOf (gridOf r)) (stateOf r) losses-listed (last .1) (last .2);
+        marked = marked-from (networkOf (gridOf r)) (stateOf r .losses) (r .mark) (last .3);
       }
 
   pub record-valid : Valid r → valid r ≡ true
   unfolding valid siteHolds
   record-valid v =
-      both-hold (both-hold (both-hold (both-hold (both-hold (both-hold (both-hold (both-hold
+      both-hold (both-hold (both-hold (both-hold (both-hold (both-hold (both-hold (both-hold (both-hold
       (both-hold (both-hold (both-hold (v .counts) (v .numbers)) (v .radii)) (v .screen))
       (v .siteUnused)) (v .coefficientsUnused)) (v .lossesUnused))
       (hold-coefficients (gridOf r) (v .coefficients)))
       (eq-eqb _ _ (v .wellStorage)))
       (columns-table (v .table)))
       (kept-totals (networkOf (gridOf r)) (stateOf r) (v .kept)))
-      (kept-drawdowns (networkOf (gridOf r)) (stateOf r) (v .kept))
+      (kept-drawdowns (networkOf (gridOf r)) (stateOf r) (v .kept)))
+      (from-marked (networkOf (gridOf r)) (stateOf r .losses) (r .mark) (v .marked))
 
   pub valid-proper : Valid r → Proper (networkOf (gridOf r))
   unfolding gridOf screenHolds wellStorage downOf
@@ -178,6 +211,16 @@ module _ (r : Record) where
       let unscreened = three-hold (ltb (screenLayer (r .site)) (r .site .layers)) (not (isScreened (r .site .screened) 0)) (ltb (r .site .intake) (screenTop (r .site))) (v .screen) .1 in
       proper-grid (gridOf r) (not-true _ unscreened) (omega (arith, v .wellStorage)) (λ i j h one k. omega (arith, v .coefficients .storage i j h one k .least)) (omega (arith, well .intake-most))
       (numbers-hold (r .site) (v .numbers) .layer 1 (omega (arith, counts-hold (r .site) (v .counts) .layers-least)) .thickness-least) (v .table)
+
+  pub mark-natural : Valid r → pos 0 ≤ℤ r .mark
+  mark-natural v = above (r .mark) (depth-natural (networkOf (gridOf r)) (valid-proper v) (stateOf r) (v .kept) 0) (v .marked .depths 0 (valid-proper v .well))
+    where
+      above : {a : ℤ} (b : ℤ) → pos 0 ≤ℤ a → a ≤ℤ b → pos 0 ≤ℤ b
+      above (pos n) h k = pos-≤ℤ zero-le
+      above {a} (negsuc n) h k = let below : pos (natAbs a) ≤ℤ negsuc n = rw (natural h) at k in absurd (below .le)
+
+  pub mark-most : Valid r → r .mark ≤ℤ pos drawdownLimit
+  mark-most v = ≤ℤ-up (r .mark) (v .marked .intake) (valid-proper v .intake)
 
   pub valid-limits : Valid r → InLimits (r .site)
   valid-limits v = judged-site (r .site) (v .counts) (v .numbers) (v .radii)

@@ -1,6 +1,7 @@
 -- Which records 14 refuses (document 01, 'Who brings a refusal about'), clause by clause.
 use mathlib.Core.Bool.{Bool, false, not, _&&_, _||_}
 use mathlib.Core.List.{List}
+use Prim.Native.Nat.{_*_}
 use lib.IntN.{ℤ, pos, negsuc, _+ℤ_}
 use lib.Dec.{leb, eqb}
 use lib.Signed.{leZ, nonNeg}
@@ -43,9 +44,14 @@ unfoldable pub drawdownsHold : Network → List ℤ → Bool
 drawdownsHold N vs =
     not (wellTooDeep N vs) && not (tableTooDeep N vs) && allBelow (N .places) (λ p. leZ (drawdown N vs p) (pos drawdownLimit))
 
+-- ---- no D of the well or of a cell is over the mark, nor the mark over 1000×p (N1)
+unfoldable pub markHolds : Network → List ℤ → ℤ → Bool
+markHolds N vs mark = allBelow (N .places) (λ p. leZ (drawdown N vs p) mark) && leZ mark (pos (1000 * N .intake))
+
 -- ---- 14 refuses a record that breaks any of these
 unfoldable pub valid : Record → Bool
 valid r =
     siteHolds (r .site) && siteUnused (r .site) && coefficientsUnused r && lossesUnused r
     && coefficientsHold (gridOf r) && eqb (r .«well_storage») (wellStorage (r .site .«water_area»)) && tableHolds r
     && totalsHold (networkOf (gridOf r)) (stateOf r) && drawdownsHold (networkOf (gridOf r)) (stateOf r .losses)
+    && markHolds (networkOf (gridOf r)) (stateOf r .losses) (r .mark)

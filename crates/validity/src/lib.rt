@@ -10,6 +10,7 @@ pub fn valid(record: Record) -> bool
     let site = record.site;
     let well_loss = record.well_loss;
     let inflow = record.inflow;
+    let mark = record.mark;
     if !validity_numbers::numbers_hold(site) {
         return false;
     }
@@ -48,6 +49,7 @@ pub fn valid(record: Record) -> bool
         columns,
         1000 * site.thickness[0],
         1000 * site.intake,
+        mark,
         &record.storages,
         &record.losses,
         record.well_storage,

@@ -1,16 +1,15 @@
-// Every D of a record within its limit.
+// Every D of a record within its limit, and the mark.
 ghost use mathlib.Core.Path.{_≡_};
-ghost use mathlib.Core.Bool.{true, not, _&&_};
+ghost use mathlib.Core.Bool.{true};
 ghost use Prim.Native.Nat.{_≤_, _<_};
 ghost use lib.IntN.{pos};
 ghost use lib.Signed.{_≤ℤ_};
 ghost use Rattle.limits.specs.Limits.{drawdownLimit};
 ghost use Rattle.coefficient_slots.specs.Slots.{usedSlot};
 ghost use Rattle.coefficient_slots.specs.Held.{inside};
-ghost use Rattle.validity_drawdowns.specs.Drawdowns.{deeper, Stored, depthSlotHolds, depthSlotsHold};
+ghost use Rattle.validity_drawdowns.specs.Drawdowns.{deeper, Stored, depthSlotHolds, depthSlotsHold, depthsHold};
 use limits::CELL_PLACES;
 use limits::COLUMN_PLACES;
-use limits::DRAWDOWN_LIMIT;
 use words::multiply::product_le;
 
 // Whether the D of a place with this storage and loss is deeper than the limit, µm: limit + 1 ≤ V×10^6/S. The quotient itself may not fit a word.
@@ -21,40 +20,45 @@ pub fn deeper_than(limit: u64, storage: u64, loss: i64) -> bool
     product_le(limit + 1, storage, loss as u64, 1000000)
 }
 
-// A cell's slot: no D past `table`, µm, in layer 1, nor past 10^9 µm below it.
+// A cell's slot: no D past the mark, µm, nor in layer 1 past `table`.
 fn depth_slot_holds(
     layers: usize,
     columns: usize,
     table: u64,
+    mark: u64,
     k: usize,
     storage: u64,
     loss: i64,
 ) -> bool
-    requires { ⌜ (table ≤ drawdownLimit) × (usedSlot (inside layers columns) k ≡ true → (0 < storage) × (pos 0 ≤ℤ loss)) ⌝ }
-    ensures { λ r. ⌜ r ≡ depthSlotHolds layers columns table k storage loss ⌝ }
+    requires { ⌜ (table ≤ drawdownLimit) × (mark ≤ drawdownLimit) × (usedSlot (inside layers columns) k ≡ true → (0 < storage) × (pos 0 ≤ℤ loss)) ⌝ }
+    ensures { λ r. ⌜ r ≡ depthSlotHolds layers columns table mark k storage loss ⌝ }
 {
     if !coefficient_slots::slot_used(layers, columns, k) {
         return true;
     }
-    if k < COLUMN_PLACES {
-        return !deeper_than(table, storage, loss);
+    if deeper_than(mark, storage, loss) {
+        return false;
     }
-    !deeper_than(DRAWDOWN_LIMIT, storage, loss)
+    if COLUMN_PLACES <= k {
+        return true;
+    }
+    !deeper_than(table, storage, loss)
 }
 
 fn depth_slots_hold<'a>(
     layers: usize,
     columns: usize,
     table: u64,
+    mark: u64,
     storages: &'a [u64; CELL_PLACES],
     losses: &'a [i64; CELL_PLACES],
 ) -> bool
-    requires { ⌜ (table ≤ drawdownLimit) × Stored layers columns (now storages) (now losses) ⌝ }
-    ensures { λ r. ⌜ r ≡ depthSlotsHold layers columns table (now (storages .entry)) (now (losses .entry)) ⌝ }
+    requires { ⌜ (table ≤ drawdownLimit) × (mark ≤ drawdownLimit) × Stored layers columns (now storages) (now losses) ⌝ }
+    ensures { λ r. ⌜ r ≡ depthSlotsHold layers columns table mark (now (storages .entry)) (now (losses .entry)) ⌝ }
 {
     let mut k = 0;
     while k < CELL_PLACES {
-        if !depth_slot_holds(layers, columns, table, k, storages[k], losses[k]) {
+        if !depth_slot_holds(layers, columns, table, mark, k, storages[k], losses[k]) {
             return false;
         }
         k += 1;
@@ -62,22 +66,31 @@ fn depth_slots_hold<'a>(
     true
 }
 
-// No D is past its limit: `intake`, µm, in the well and `table` in layer 1.
+// The mark is not below 0 nor past `intake`, µm; no D is past the mark, nor in layer 1 past `table`. That no D is past `intake` in the well, nor
+// past 10^9 µm in a cell, follows from these and is not tested again.
 pub fn drawdowns_hold<'a>(
     layers: usize,
     columns: usize,
     table: u64,
     intake: u64,
+    mark: i64,
     storages: &'a [u64; CELL_PLACES],
     losses: &'a [i64; CELL_PLACES],
     well_storage: u64,
     well_loss: i64,
 ) -> bool
     requires { ⌜ (table ≤ drawdownLimit) × (intake ≤ drawdownLimit) × Stored layers columns (now storages) (now losses) × (0 < «well_storage») × (pos 0 ≤ℤ «well_loss») ⌝ }
-    ensures { λ r. ⌜ r ≡ (not (deeper intake «well_storage» «well_loss») && depthSlotsHold layers columns table (now (storages .entry)) (now (losses .entry))) ⌝ }
+    ensures { λ r. ⌜ r ≡ depthsHold layers columns table intake mark (now (storages .entry)) (now (losses .entry)) «well_storage» «well_loss» ⌝ }
 {
-    if deeper_than(intake, well_storage, well_loss) {
+    if mark < 0 {
         return false;
     }
-    depth_slots_hold(layers, columns, table, storages, losses)
+    let most = mark as u64;
+    if intake < most {
+        return false;
+    }
+    if deeper_than(most, well_storage, well_loss) {
+        return false;
+    }
+    depth_slots_hold(layers, columns, table, most, storages, losses)
 }

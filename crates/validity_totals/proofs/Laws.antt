@@ -1,37 +1,20 @@
 -- Laws that this crate's proofs share.
 use mathlib.Core.Path.{_≡_, refl}
-use mathlib.Core.Bool.{true, false, _||_, false≢true}
+use mathlib.Core.Bool.{true, false, _||_}
 use mathlib.Core.List.{List}
-use Prim.Native.Nat.{ℕ, _+_, _-_, _≤_, _<_, _^_}
+use Prim.Native.Nat.{ℕ, _+_, _-_, _≤_}
 use native.Mathlib.Omega.{arith}
-use borrow.Author.Tests.{ltb-true, eqb-true, eq-eqb}
-use lib.Dec.{T, eqb}
-use lib.IntN.{ℤ, pos, negsuc, natAbs}
+use borrow.Author.Tests.{eqb-true, eq-eqb}
+use lib.Dec.{eqb}
+use lib.IntN.{ℤ, pos, natAbs}
 use lib.ListN.{getD}
-use lib.Signed.{mag, ltZ, nonNeg}
+use lib.Signed.{nonNeg}
 use Rattle.laws.specs.Lists.{sumℕ, range}
 use Rattle.laws.specs.Rows.{same-test}
 use Rattle.laws.specs.RowSums.{sum-more, sum-parts}
 use Rattle.coefficient_slots.specs.Held.{inside}
 use Rattle.coefficient_slots.specs.Slots.{usedSlot}
 use Rattle.validity_totals.specs.Totals.{lossSlotHolds, lossSum}
-
--- ---- what a test `v < 0` says
-pub negative-test : (v : ℤ) → ltZ v (pos 0) ≡ true → false ≡ nonNeg v
-negative-test (pos n) e = absurd (omega (arith, ltb-true n 0 e))
-negative-test (negsuc n) e = refl
-
-pub natural-test : (v : ℤ) → ltZ v (pos 0) ≡ false → true ≡ nonNeg v
-natural-test (pos n) e = refl
-natural-test (negsuc n) e = e
-
-pub is-natural : (v : ℤ) → nonNeg v ≡ true → T (nonNeg v)
-is-natural (pos n) e = tt
-is-natural (negsuc n) e = absurd (false≢true e)
-
-pub size-small : (v : ℤ) → nonNeg v ≡ true → mag v < 2 ^ 63 → natAbs v < 9223372036854775808
-size-small (pos n) e h = h
-size-small (negsuc n) e h = absurd (false≢true e)
 
 -- ---- a loss in its slot
 pub negative-slot : (layers columns k : ℕ) (v : ℤ) → nonNeg v ≡ false → false ≡ lossSlotHolds layers columns k v

@@ -2,6 +2,8 @@
 //! nearest allowed neighbour, and 9 by the pumped total and by the time. The changes are chosen for bore K. Where a change of R_0, R_1,
 //! b_2 or Kv_2 would else be refused for the C between layers 1 and 2 (document 02, N6), it has the C with it that bore K then keeps,
 //! 2×A_1×Kv_2/b_2, rounded down; that of R_0 to 5001 has the largest grid's.
+//! Changed losses have a mark with them (document 02, N1) that is no less than the drawdowns that bore K then has, so that a change is
+//! refused for what it is there for; one that is less is in the group `marks`, and where no word holds the drawdown.
 
 use crate::checksum::record_checksum;
 use crate::grid::slot;
@@ -48,7 +50,7 @@ fn write_step(name: &str, mut record: Record, out: &mut impl Write) -> io::Resul
     }
 }
 
-const GROUPS: [(&str, &[Change]); 13] = [
+const GROUPS: [(&str, &[Change]); 14] = [
     ("counts", &COUNTS),
     ("layers", &LAYER_NUMBERS),
     ("numbers", &NUMBERS),
@@ -62,6 +64,7 @@ const GROUPS: [(&str, &[Change]); 13] = [
     ("below", &BELOW),
     ("alone", &ALONE),
     ("tables", &TABLES),
+    ("marks", &MARKS),
 ];
 
 const COUNTS: [Change; 16] = [
@@ -227,54 +230,50 @@ const STORAGES: [Change; 11] = [
     |record| record.cell_s[slot(20, 50)] = 1,
 ];
 
-/// V of the well and of column 1 of layers 1 and 2, inflow and pumped total; no time.
-fn set_losses(record: &mut Record, well: i64, upper: i64, lower: i64, inflow: i64, pumped: u64) {
+/// V of the well and of column 1 of layers 1 and 2, inflow and pumped total, and the mark; no time.
+fn set_losses(record: &mut Record, well: i64, upper: i64, lower: i64, inflow: i64, pumped: u64, mark: i64) {
     record.well_loss = well;
     record.cell_loss[slot(1, 1)] = upper;
     record.cell_loss[slot(2, 1)] = lower;
     record.inflow = inflow;
     record.pumped = pumped;
     record.time = 0;
+    record.mark = mark;
 }
 
-/// Losses and inflow that do not add up, are negative, or stand in a slot that no cell uses.
+/// V in a slot that no cell of bore K uses, with the totals and the mark that go with it.
+fn set_loss(record: &mut Record, at: usize, loss: i64, inflow: i64, pumped: u64, mark: i64) {
+    set_losses(record, 0, 0, 0, inflow, pumped, mark);
+    record.cell_loss[at] = loss;
+}
+
+/// Losses and inflow that do not add up, are negative, or stand in a slot that no cell uses. The narrow well's layer 2 is 3 µm deep in the
+/// first seven.
 const SUMS: [Change; 18] = [
-    |record| set_losses(record, 10, 20, 30, 40, 100),
-    |record| set_losses(record, 10, 20, 30, 40, 99),
-    |record| set_losses(record, 10, 20, 30, 40, 101),
-    |record| set_losses(record, 11, 20, 30, 40, 100),
-    |record| set_losses(record, 10, 21, 30, 40, 100),
-    |record| set_losses(record, 10, 20, 31, 40, 100),
-    |record| set_losses(record, 10, 20, 30, 41, 100),
-    |record| set_losses(record, 0, 0, 0, 0, 0),
-    |record| set_losses(record, -1, 0, 0, 1, 0),
-    |record| set_losses(record, 1, -1, 0, 0, 0),
-    |record| set_losses(record, 1, 0, -1, 0, 0),
-    |record| set_losses(record, 1, 0, 0, -1, 0),
-    |record| set_losses(record, 0, 0, 0, i64::MIN, 0),
+    |record| set_losses(record, 10, 20, 30, 40, 100, 3),
+    |record| set_losses(record, 10, 20, 30, 40, 99, 3),
+    |record| set_losses(record, 10, 20, 30, 40, 101, 3),
+    |record| set_losses(record, 11, 20, 30, 40, 100, 3),
+    |record| set_losses(record, 10, 21, 30, 40, 100, 3),
+    |record| set_losses(record, 10, 20, 31, 40, 100, 3),
+    |record| set_losses(record, 10, 20, 30, 41, 100, 3),
+    |record| set_losses(record, 0, 0, 0, 0, 0, 0),
+    |record| set_losses(record, -1, 0, 0, 1, 0, 0),
+    |record| set_losses(record, 1, -1, 0, 0, 0, 0),
+    |record| set_losses(record, 1, 0, -1, 0, 0, 0),
+    |record| set_losses(record, 1, 0, 0, -1, 0, 0),
+    |record| set_losses(record, 0, 0, 0, i64::MIN, 0, 0),
     // These add up to 2^64.
-    |record| set_losses(record, i64::MAX, 2, 0, i64::MAX, 0),
-    |record| {
-        set_losses(record, 0, 0, 0, 0, 1);
-        record.cell_loss[slot(1, 2)] = 1;
-    },
-    |record| {
-        set_losses(record, 0, 0, 0, 1, 0);
-        record.cell_loss[slot(1, 2)] = -1;
-    },
-    |record| {
-        set_losses(record, 0, 0, 0, 0, 1);
-        record.cell_loss[slot(3, 1)] = 1;
-    },
-    |record| {
-        set_losses(record, 0, 0, 0, 0, 1);
-        record.cell_loss[slot(20, 50)] = 1;
-    },
+    |record| set_losses(record, i64::MAX, 2, 0, i64::MAX, 0, 307_445_734_561_825),
+    |record| set_loss(record, slot(1, 2), 1, 0, 1, 0),
+    |record| set_loss(record, slot(1, 2), -1, 1, 0, 0),
+    |record| set_loss(record, slot(3, 1), 1, 0, 1, 0),
+    |record| set_loss(record, slot(20, 50), 1, 0, 1, 0),
 ];
 
 /// All that was pumped came from the last column.
 fn set_totals(record: &mut Record, pumped: u64, time: u64) {
-    set_losses(record, 0, 0, 0, pumped as i64, pumped);
+    set_losses(record, 0, 0, 0, pumped as i64, pumped, 0);
     record.time = time;
 }
 
@@ -290,36 +289,52 @@ const TOTALS: [Change; 8] = [
     |record| set_totals(record, 0, 3_999_999_999_999_500_001),
 ];
 
+/// V of the well alone, and the mark.
+fn set_well_loss(record: &mut Record, loss: i64, mark: i64) {
+    set_losses(record, loss, 0, 0, 0, loss as u64, mark);
+}
+
+/// V of column 1 of layers 1 and 2 alone, and the mark.
+fn set_cell_losses(record: &mut Record, upper: i64, lower: i64, mark: i64) {
+    set_losses(record, 0, upper, lower, 0, (upper + lower) as u64, mark);
+}
+
 /// S of column 1 of layers 1 and 2.
 fn set_storages(record: &mut Record, upper: u64, lower: u64) {
     record.cell_s[slot(1, 1)] = upper;
     record.cell_s[slot(2, 1)] = lower;
 }
 
-/// D of the well, of layer 1 and of layer 2 at bore K's bounds, and one that no word holds.
-const DEPTHS: [Change; 7] = [
-    |record| set_losses(record, 299_970_029_999, 0, 0, 0, 299_970_029_999),
-    |record| set_losses(record, 299_970_030_000, 0, 0, 0, 299_970_030_000),
-    |record| {
-        set_storages(record, 1_000_000, 1_000_000);
-        set_losses(record, 0, 10_000_000, 0, 0, 10_000_000);
-    },
-    |record| {
-        set_storages(record, 1_000_000, 1_000_000);
-        set_losses(record, 0, 10_000_001, 0, 0, 10_000_001);
-    },
-    |record| {
-        set_storages(record, 1_000_000, 1_000_000);
-        set_losses(record, 0, 0, 1_000_000_000, 0, 1_000_000_000);
-    },
-    |record| {
-        set_storages(record, 1_000_000, 1_000_000);
-        set_losses(record, 0, 0, 1_000_000_001, 0, 1_000_000_001);
-    },
-    |record| {
-        set_storages(record, 1_000_000, 1);
-        set_losses(record, 0, 0, 4_000_000_000_000_000_000, 0, 4_000_000_000_000_000_000);
-    },
+/// The same with 1 nl to a µm.
+fn set_thin(record: &mut Record, upper: i64, lower: i64, mark: i64) {
+    set_storages(record, 1_000_000, 1_000_000);
+    set_cell_losses(record, upper, lower, mark);
+}
+
+/// The same with an S of 1 in layer 2.
+fn set_empty(record: &mut Record, lower: i64, mark: i64) {
+    set_storages(record, 1_000_000, 1);
+    set_cell_losses(record, 0, lower, mark);
+}
+
+/// D at its bounds, the mark as deep: of bore K's well at 1000×p; of a layer 1 like bore K's at its bottom, and of layer 2 at 10^9; one that no
+/// word holds, and one that would be 0 in a word; of bore K's cells at 1000×p; of the deep intake's well at 10^9. Since a cell deeper than
+/// 1000×p is refused whatever the mark is, bore K itself shows neither that bottom nor 10^9: the deep intake does, and the largest grid 10^9.
+const DEPTHS: [Change; 14] = [
+    |record| set_well_loss(record, 299_970_029_999, 9_999_000),
+    |record| set_well_loss(record, 299_970_030_000, 9_999_001),
+    |record| set_thin(record, 10_000_000, 0, 10_000_000),
+    |record| set_thin(record, 10_000_001, 0, 10_000_001),
+    |record| set_thin(record, 0, 1_000_000_000, 1_000_000_000),
+    |record| set_thin(record, 0, 1_000_000_001, 1_000_000_001),
+    |record| set_empty(record, 4_000_000_000_000_000_000, i64::MAX),
+    |record| set_empty(record, 288_230_376_151_711_744, 0),
+    |record| set_thin(record, 9_999_000, 0, 9_999_000),
+    |record| set_thin(record, 9_999_001, 0, 9_999_001),
+    |record| set_thin(record, 0, 9_999_000, 9_999_000),
+    |record| set_thin(record, 0, 9_999_001, 9_999_001),
+    |record| set_well_loss(record, 30_000_000_029_999, 1_000_000_000),
+    |record| set_well_loss(record, 30_000_000_030_000, 1_000_000_001),
 ];
 
 /// The slot of the C between layers 1 and 2 at its value for bore K and beside it, at document 01's value, at the C in use while layer 1 is
@@ -365,24 +380,36 @@ fn set_verticals(record: &mut Record, upper: u64, lower: u64, below: u64) {
     record.down_c[slot(1, 1)] = below;
 }
 
-/// The water table at the bottom of bore K's layer 1.
+/// The water table at the bottom of a layer 1 like bore K's.
 fn set_table_at_bottom(record: &mut Record) {
-    set_losses(record, 0, 1_507_964_000_000, 0, 0, 1_507_964_000_000);
+    set_cell_losses(record, 1_507_964_000_000, 0, 10_000_000);
 }
 
-/// Bore K's water table at the bottom of layer 1, above a layer 2 that is full and above one that is deeper, 1 µm above the bottom, and
-/// halfway; another Kv_1; then a Kv of 0, with the table at the bottom and as it was.
-const TABLES: [Change; 10] = [
+/// Bore K's water table as deep as its intake, 1 mm above the bottom of layer 1.
+fn set_table_at_intake(record: &mut Record) {
+    set_cell_losses(record, 1_507_813_203_600, 0, 9_999_000);
+}
+
+/// Halfway between.
+fn set_table_halfway(record: &mut Record) {
+    set_cell_losses(record, 753_982_000_000, 0, 5_000_000);
+}
+
+/// The water table at the bottom of layer 1, above a layer 2 that is full and above one that is deeper, 1 µm above the bottom, and halfway;
+/// another Kv_1; then a Kv of 0, with the table at the bottom and as it was. Bore K's table cannot be at the bottom, since its intake is
+/// above it; that of the deep intake can, and layers 1 and 2 are as large there. Then bore K's table as deep as its intake, one 1 mm above
+/// that over a layer 2 that is as deep as the intake, another Kv_1, and a Kv_1 of 0.
+const TABLES: [Change; 14] = [
     set_table_at_bottom,
-    |record| set_losses(record, 0, 1_507_964_000_000, 18_095_568_000, 0, 1_526_059_568_000),
-    |record| set_losses(record, 0, 1_507_963_849_204, 0, 0, 1_507_963_849_204),
-    |record| set_losses(record, 0, 753_982_000_000, 0, 0, 753_982_000_000),
+    |record| set_cell_losses(record, 1_507_964_000_000, 18_095_568_000, 12_000_000),
+    |record| set_cell_losses(record, 1_507_963_849_204, 0, 9_999_999),
+    set_table_halfway,
     |record| {
         set_table_at_bottom(record);
-        set_verticals(record, 1, 10_000, 7_539_820);
+        set_verticals(record, 1, 5_000_000, 7_539_820);
     },
     |record| {
-        set_losses(record, 0, 753_982_000_000, 0, 0, 753_982_000_000);
+        set_table_halfway(record);
         set_verticals(record, 1, 10_000, 7_539_820);
     },
     |record| {
@@ -398,4 +425,53 @@ const TABLES: [Change; 10] = [
         set_verticals(record, 0, 0, 0);
     },
     |record| set_verticals(record, 0, 10_000, 0),
+    set_table_at_intake,
+    |record| set_cell_losses(record, 1_507_662_407_200, 15_078_132_036, 9_999_000),
+    |record| {
+        set_table_at_intake(record);
+        set_verticals(record, 1, 10_000, 7_539_820);
+    },
+    |record| {
+        set_table_at_intake(record);
+        set_verticals(record, 0, 10_000, 0);
+    },
+];
+
+/// The mark alone: at bore K's D of the well and under it, at what the step that is tried brings that to and over it; at 1000×p and over it,
+/// for bore K, for an intake of 16, of 17 and of 1,000,000 mm; 0, negative, and at the ends of a word. Then with losses: the well just under
+/// and at 1 µm; a cell of layer 1, one of layer 2, and that with a deeper well; a cell at 1000×p and over it; a cell of the largest grid's
+/// last stored column, in its topmost and in its deepest layer.
+const MARKS: [Change; 32] = [
+    |record| record.mark = 33_015,
+    |record| record.mark = 33_014,
+    |record| record.mark = 49_173,
+    |record| record.mark = 49_174,
+    |record| record.mark = 9_999_000,
+    |record| record.mark = 9_999_001,
+    |record| record.mark = 16_000,
+    |record| record.mark = 16_001,
+    |record| record.mark = 17_000,
+    |record| record.mark = 17_001,
+    |record| record.mark = 1_000_000_000,
+    |record| record.mark = 1_000_000_001,
+    |record| record.mark = 0,
+    |record| record.mark = -1,
+    |record| record.mark = i64::MIN,
+    |record| record.mark = i64::MAX,
+    |record| set_well_loss(record, 29_999, 0),
+    |record| set_well_loss(record, 30_000, 0),
+    |record| set_well_loss(record, 30_000, 1),
+    |record| set_cell_losses(record, 1_507_964_000, 0, 10_000),
+    |record| set_cell_losses(record, 1_507_964_000, 0, 9999),
+    |record| set_cell_losses(record, 0, 15_079_640, 10_000),
+    |record| set_cell_losses(record, 0, 15_079_640, 9999),
+    |record| set_losses(record, 600_000_000, 0, 15_079_640, 0, 615_079_640, 20_000),
+    |record| set_losses(record, 600_000_000, 0, 15_079_640, 0, 615_079_640, 19_999),
+    |record| set_cell_losses(record, 0, 15_078_132_036, 9_999_000),
+    |record| set_cell_losses(record, 0, 15_078_133_544, 9_999_001),
+    |record| set_cell_losses(record, 0, 15_078_133_544, 9_999_000),
+    |record| set_loss(record, slot(1, 49), 421_452_524_710, 0, 421_452_524_710, 1),
+    |record| set_loss(record, slot(1, 49), 421_452_524_710, 0, 421_452_524_710, 0),
+    |record| set_loss(record, slot(20, 49), 210_726_263, 0, 210_726_263, 1),
+    |record| set_loss(record, slot(20, 49), 210_726_263, 0, 210_726_263, 0),
 ];

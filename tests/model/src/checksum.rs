@@ -11,7 +11,8 @@
 //! 6. for each layer but the deepest: vertical C of columns 1 to m−1;
 //! 7. S of the well; for each layer: S of columns 1 to m−1;
 //! 8. V of the well; for each layer: V of columns 1 to m−1;
-//! 9. pumped total, inflow total, time.
+//! 9. pumped total, inflow total, time;
+//! 10. the mark.
 
 use crate::grid::slot;
 use crate::record::Record;
@@ -56,6 +57,6 @@ fn record_numbers(record: &Record) -> Vec<u64> {
     numbers.extend(record.stored_cells().map(|(layer, column)| record.cell_s[slot(layer, column)]));
     numbers.push(record.well_loss as u64);
     numbers.extend(record.stored_cells().map(|(layer, column)| record.cell_loss[slot(layer, column)] as u64));
-    numbers.extend([record.pumped, record.inflow as u64, record.time]);
+    numbers.extend([record.pumped, record.inflow as u64, record.time, record.mark as u64]);
     numbers
 }

@@ -164,7 +164,7 @@ impl Ledger {
         Ok(())
     }
 
-    /// The four figures of the budget, nl.
+    /// The figures of the budget: four totals, nl, and the greatest D that the well has had, µm.
     pub fn budget(&self) -> Budget {
         let loss = |place: &Place| self.places[place].loss as i64;
         Budget {
@@ -172,6 +172,7 @@ impl Ledger {
             well_loss: loss(&Place::Well),
             cell_loss: self.places.keys().filter(|&&place| place != Place::Well).map(loss).sum(),
             inflow: self.inflow as i64,
+            mark: self.deepest_well as i64,
         }
     }
 

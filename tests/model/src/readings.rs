@@ -6,13 +6,14 @@ use crate::refusal::Refusal;
 use crate::step;
 use std::cmp::Reverse;
 
-/// Totals of a record, nl.
+/// Totals of a record, nl, and its deepest mark, µm.
 #[derive(Clone, Copy, PartialEq, Eq, Debug)]
 pub struct Budget {
     pub pumped: u64,
     pub well_loss: i64,
     pub cell_loss: i64,
     pub inflow: i64,
+    pub mark: i64,
 }
 
 /// Drawdown at a place, µm.
@@ -27,7 +28,7 @@ pub fn drawdown(record: &Record, place: Place) -> Result<u64, Refusal> {
     }
 }
 
-/// Pumped total, well's loss, all cells' loss and inflow total.
+/// Pumped total, well's loss, all cells' loss, inflow total and the deepest mark.
 pub fn budget(record: &Record) -> Result<Budget, Refusal> {
     record.judge()?;
     Ok(Budget {
@@ -35,6 +36,7 @@ pub fn budget(record: &Record) -> Result<Budget, Refusal> {
         well_loss: record.well_loss,
         cell_loss: record.all_cells_loss(),
         inflow: record.inflow,
+        mark: record.mark,
     })
 }
 

@@ -55,6 +55,8 @@ pub struct Record {
     pub inflow: i64,
     /// µs.
     pub time: u64,
+    /// The deepest mark, µm: the largest D of the well since the start (document 02, N1).
+    pub mark: i64,
 }
 
 /// Starts a model from a text: taken or refused, with the start record or the all-zero one.
@@ -98,6 +100,7 @@ impl Record {
             pumped: 0,
             inflow: 0,
             time: 0,
+            mark: 0,
         }
     }
 
@@ -207,6 +210,7 @@ impl Record {
             .or_else(|| self.coefficient_fault())
             .or_else(|| self.total_fault())
             .or_else(|| self.drawdown_fault())
+            .or_else(|| self.mark_fault())
     }
 
     /// Scenario numbers, rules 4 and 5.
@@ -307,6 +311,23 @@ impl Record {
             if depth > limits::DRAWDOWN {
                 return Some("cell's drawdown");
             }
+        }
+        None
+    }
+
+    /// The mark no less than the well's drawdown and every stored cell's, and at most 1000×p (document 02, N1).
+    fn mark_fault(&self) -> Option<&'static str> {
+        // A drawdown has 83 binary digits at most.
+        let under = |depth: u128| i128::from(self.mark) < depth as i128;
+        if under(drawdown(self.well_loss, self.well_s)) {
+            return Some("mark under the well's drawdown");
+        }
+        let mut slots = self.stored_cells().map(|(layer, column)| slot(layer, column));
+        if slots.any(|at| under(drawdown(self.cell_loss[at], self.cell_s[at]))) {
+            return Some("mark under a cell's drawdown");
+        }
+        if i128::from(self.mark) > 1000 * i128::from(self.intake_depth) {
+            return Some("mark over the intake");
         }
         None
     }

@@ -165,7 +165,8 @@ fn for_each_state<W: Write>(
 fn write_state(record: &Record, before: &Record, start: &Record, length: u64, out: &mut Vec<u8>) -> io::Result<()> {
     writeln!(out, "time {}", record.time)?;
     let budget = readings::budget(record).expect("a run from start keeps an allowed record");
-    writeln!(out, "budget {} {} {} {}", budget.pumped, budget.well_loss, budget.cell_loss, budget.inflow)?;
+    let figures = [budget.well_loss, budget.cell_loss, budget.inflow, budget.mark];
+    writeln!(out, "budget {}{}", budget.pumped, row(figures))?;
     writeln!(out, "checksum {}", record_checksum(record))?;
     write_drawdowns(record, out)?;
     write_sets(record, out)?;

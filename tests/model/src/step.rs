@@ -35,11 +35,16 @@ pub fn step_with(record: &mut Record, rate: u64, length: u64, mistake: Option<Mi
     let mut sweep = Sweep::new(record, length, mistake);
     sweep.all_faces();
     sweep.loss[WELL] += i128::from(volume);
-    sweep.judge()?;
+    let (outcome, mark) = (sweep.judge(), sweep.mark());
     let (loss, inflow) = (sweep.loss, sweep.inflow());
+    if mistake == Some(Mistake::MarkOfRefused) {
+        record.mark = word(mark);
+    }
+    outcome?;
     keep(record, &loss, inflow, mistake);
     record.pumped += volume;
     record.time += length;
+    record.mark = word(mark);
     Ok(())
 }
 
@@ -235,9 +240,14 @@ impl Sweep<'_> {
         }
     }
 
+    /// D of the well after the step, µm.
+    fn well_after(&self) -> i128 {
+        drawdown(self.loss[WELL], i128::from(self.record.well_s))
+    }
+
     /// Refusals 10 and 11 on the drawdowns after the step.
     fn judge(&self) -> Result<(), Refusal> {
-        if drawdown(self.loss[WELL], i128::from(self.record.well_s)) > 1000 * i128::from(self.record.intake_depth) {
+        if self.well_after() > 1000 * i128::from(self.record.intake_depth) {
             return Err(Refusal::Intake);
         }
         let bound = 1000 * i128::from(self.record.thickness[0]);
@@ -248,6 +258,16 @@ impl Sweep<'_> {
         Ok(())
     }
 
+    /// The mark after the step, µm: the larger of what it was and the well's D after the step (document 02, N1).
+    fn mark(&self) -> i128 {
+        let before = i128::from(self.record.mark);
+        match self.mistake {
+            Some(Mistake::MarkBehind) => before.max(self.drawdown[WELL]),
+            Some(Mistake::MarkFalls) => self.well_after(),
+            _ => before.max(self.well_after()),
+        }
+    }
+
     /// Inflow total after the step, nl: with the water from the last column.
     fn inflow(&self) -> i128 {
         let last = |layer| slot(layer, self.record.columns as usize);
@@ -256,9 +276,13 @@ impl Sweep<'_> {
     }
 }
 
+/// A loss (nl), inflow (nl) or mark (µm) that a step leaves.
+fn word(number: i128) -> i64 {
+    i64::try_from(number).expect("what an accepted step leaves fits a word")
+}
+
 /// Puts losses and inflow into the record.
 fn keep(record: &mut Record, loss: &[i128; CELLS + 1], inflow: i128, mistake: Option<Mistake>) {
-    let word = |volume: i128| i64::try_from(volume).expect("a loss of an accepted step fits a word");
     record.well_loss = word(loss[WELL]);
     for (layer, column) in record.stored_cells() {
         let at = slot(layer, column);

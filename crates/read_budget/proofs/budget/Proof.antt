@@ -7,7 +7,7 @@ use Rattle.laws.specs.Signed.{back}
 use Rattle.validity.specs.Laws.{valid-record}
 use Rattle.validity.specs.Validity.{valid}
 use Rattle.read_budget.specs.Counted.{everyCell}
-use Rattle.readings.specs.Laws.{well-back, inflow-back}
+use Rattle.readings.specs.Laws.{well-back, inflow-back, mark-back}
 use Rattle.read_budget.proofs.Loss.{loss-asks, loss-room, count-asks, budget-14, cells-listed, budget-given}
 use Rattle.read_budget.proofs.budget.Statement.{statement}
 use Rattle.read_budget.proofs.budget.Tie as tie
@@ -44,13 +44,13 @@ loss-in-requires c κs =
 
 returns-2 : tie.Need-returns-2
 returns-2 c =
-    let at = c .before .before in
+    let at = c .before .before .before in
     let cells = at .before .before .before .before .before in
     let n = cells .before in
     let ok = passed (n .before .before) in
     let v = valid-record _ ok in
     let lost = rw (well-back _ v, cells .every-cell .ensures) at (at .loss-in .ensures) in
-    budget-given _ ok _ (n .place-count .ensures) (well-back _ v) (back _ (at .loss-in .ok) ∙ lost) (inflow-back _ v)
+    budget-given _ ok _ (n .place-count .ensures) (well-back _ v) (back _ (at .loss-in .ok) ∙ lost) (inflow-back _ v) (mark-back _ v)
 
 pub budget-spec : {M : Type 1} → statement M
 budget-spec =

@@ -6,7 +6,7 @@ use borrow.Author.Tests.{not-true, not-false}
 use Rattle.network.specs.Network.{rateOrLengthOut}
 use Rattle.record.specs.declared.Outcome.the-variants.{Refused}
 use Rattle.validity.specs.Validity.{valid}
-use Rattle.step_rules.proofs.Laws.{refused-7, refused-8, well-back, inflow-back}
+use Rattle.step_rules.proofs.Laws.{refused-7, refused-8, well-back, inflow-back, mark-back}
 use Rattle.step_rules.specs.Ready.{Ready}
 use Rattle.step.specs.Laws.{repeat-14, repeat-none, repeat-refused, ran-ready, repeat-back}
 use Rattle.step.proofs.repeat.Statement.{statement}
@@ -93,11 +93,11 @@ run-requires c κs = ready c
 
 returns-5 : tie.Need-returns-5
 returns-5 c =
-    let after = c .before .before .before .before in
+    let after = c .before .before .before .before .before in
     let y = ready (after .before) in
     let a = start (after .before) .args in
     let last = ran-ready (a .rate) (a .dt) (a .«record») y (a .steps) (after .run .ensures) in
-    repeat-back (a .rate) (a .dt) (a .«record») y (a .steps) (after .run .ensures) (well-back _ _ _ last) (inflow-back _ _ _ last)
+    repeat-back (a .rate) (a .dt) (a .«record») y (a .steps) (after .run .ensures) (well-back _ _ _ last) (inflow-back _ _ _ last) (mark-back _ _ _ last)
 
 pub repeat-spec : {M : Type 1} → statement M
 repeat-spec =

@@ -10,11 +10,15 @@ use lib.ListN.{getD}
 use mir.Syntax.{w64}
 use mir.Val.{toZ, ofZ}
 use Rattle.laws.specs.Fill.{fill}
+use Rattle.laws.specs.Integer.{≤ℤ-pos}
+use Rattle.laws.specs.Lists.{larger}
+use Rattle.laws.specs.Signed.{back}
 use Rattle.record.specs.Record.{outcomeOf}
 use Rattle.step_conditions.specs.Conditions.{totalsFull}
+use Rattle.step_drawdowns.specs.Drawdowns.{depthOf}
 use Rattle.step_sweep.specs.Worked.{Lent, lent, wellAfter, inflowAfter, workedOf, lossesOf}
 use Rattle.step_judged.specs.Course.{tooDeep, halts, Advancing}
-use Rattle.step_judged.proofs.Laws.{well-back, inflow-back, well-after-back, inflow-after-back, totals-fit, halted-is, halted-9, taken, judged, restored}
+use Rattle.step_judged.proofs.Laws.{well-back, inflow-back, mark-back, well-after-back, inflow-after-back, depth-within, totals-fit, halted-is, halted-9, taken, judged, restored}
 use Rattle.step_judged.proofs.advance.Statement.{statement}
 use Rattle.step_judged.proofs.advance.Tie as tie
 
@@ -24,7 +28,7 @@ held c =
     let a = c .args in
     lent (a .terms) (a .course .«well_loss») (a .course .inflow) (now (a .areas)) (now (a .screen)) (now (a .horizontal)) (now (a .vertical)) (now (a .storages)) (now (a .losses))
 
-asked : (c : tie.Start) → Advancing (held c) (c .args .terms .intake) (c .args .course .pumped) (c .args .course .time)
+asked : (c : tie.Start) → Advancing (held c) (c .args .terms .intake) (c .args .course)
 asked c = c .pre .0
 
 roomy : (c : tie.Else1) → let a = c .before .before .args in totalsFull (a .course .pumped) (a .course .time) (a .terms .rate) (a .terms .dt) ≡ false
@@ -33,7 +37,7 @@ roomy c = sym (c .before .totals-pass .ensures) ∙ c .if1 .left
 -- ---- the step is worked
 
 abbrev counted : tie.After-work-step-arg5 → tie.Else1
-counted c = c .before .before .before .before .before .before .before
+counted c = c .before .before .before .before .before .before .before .before
 
 abbrev begun : tie.After-work-step-arg5 → tie.Start
 begun c = counted c .before .before
@@ -47,14 +51,14 @@ module _ (c : tie.After-work-step) where
 
   -- the losses of the cells after it
   abbrev left : List ℤ
-  left = c .work-step .last .1 .1 .1 .1 .1 .1 .1 .1 .1 .0
+  left = c .work-step .last .1 .1 .1 .1 .1 .1 .1 .1 .1 .1 .0
 
   losses-worked : left ≡ lossesOf (held start)
   losses-worked = rw (well-back (asked start), inflow-back (asked start)) at (c .work-step .ensures .losses)
 
   -- and those before it, which are kept aside
   abbrev aside : List ℤ
-  aside = c .work-step .last .1 .1 .1 .1 .1 .1 .1 .1 .1 .1 .1 .1 .1 .0
+  aside = c .work-step .last .1 .1 .1 .1 .1 .1 .1 .1 .1 .1 .1 .1 .1 .1 .0
 
   -- the slots given back make the losses what they were
   undone : {ls : List ℤ} → ls ≡ fill (50 * (start .args .terms .layers - 1) + (start .args .terms .columns - 1)) (λ k. getD aside k (pos 0)) left → ls ≡ now (start .args .losses)
@@ -70,19 +74,19 @@ module _ (c : tie.After-work-step) where
   inflow-worked = ap (λ x. toZ w64 (ofZ w64 (x .inflow))) worked ∙ inflow-after-back (asked start)
 
 -- the place after it from those further on
-abbrev from-told : tie.After-struct-told4 → tie.After-work-step
+abbrev from-told : tie.After-struct-told5 → tie.After-work-step
 from-told c = c .before .before
 
 abbrev from-judged : tie.After-too-deep → tie.After-work-step
 from-judged c = from-told (c .before .before)
 
 -- the number that 10 and 11 gave halts it
-number-is : (c : tie.After-too-deep) → let s = start (from-judged c) in c .too-deep .result ≡ halts (held s) (s .args .terms .intake) (s .args .course .pumped) (s .args .course .time)
+number-is : (c : tie.After-too-deep) → let s = start (from-judged c) in c .too-deep .result ≡ halts (held s) (s .args .terms .intake) (s .args .course)
 number-is c =
     let at = from-judged c in
     let a = start at .args in
     let deep : c .too-deep .result ≡ tooDeep (a .terms) (toZ w64 (ofZ w64 (at .work-step .result .«well_loss»))) (now (a .storages)) (left at) = c .too-deep .ensures in
-    deep ∙ judged _ _ _ _ _ _ _ _ _ _ _ (roomy (counted (at .before))) (well-worked at) (losses-worked at)
+    deep ∙ judged _ _ _ _ _ _ _ _ _ _ (roomy (counted (at .before))) (well-worked at) (losses-worked at)
 
 -- ---- the answers
 
@@ -95,11 +99,13 @@ halted-requires c κs = omega arith
 returns : tie.Need-returns
 returns c =
     let s = c .before .before .before in
-    let h = halted-9 (held s) (s .args .terms .intake) (s .args .course .pumped) (s .args .course .time) (sym (c .before .before .totals-pass .ensures) ∙ c .before .if1 .taken) in
+    let h = halted-9 (held s) (s .args .terms .intake) (s .args .course) (sym (c .before .before .totals-pass .ensures) ∙ c .before .if1 .taken) in
     record { answer = c .halted .ensures ∙ h .0; losses = h .1; scratch = s .pre .1 .1 }
 
 work-step-requires : tie.Need-work-step-requires
-work-step-requires c κs = let s = begun c in (rw (well-back (asked s), inflow-back (asked s)) (asked s .workable), (s .pre .1 .0, s .pre .1 .1))
+work-step-requires c κs =
+    let s = begun c in
+    rw (well-back (asked s), inflow-back (asked s)) (asked s .workable, ((asked s .wellDepth, s .pre .1 .0 .0), s .pre .1 .1))
 
 too-deep-requires : tie.Need-too-deep-requires
 too-deep-requires c κs =
@@ -118,28 +124,53 @@ returns-2 c =
     let n = c .before .before .before .before in
     let at = from-judged (n .before) in
     let s = start at in
-    let h = halted-is (held s) (s .args .terms .intake) (s .args .course .pumped) (s .args .course .time) (n .before .too-deep .result) (omega (arith, n .if2 .taken)) (number-is (n .before)) in
+    let h = halted-is (held s) (s .args .terms .intake) (s .args .course) (n .before .too-deep .result) (omega (arith, n .if2 .taken)) (number-is (n .before)) in
     let answer : c .halted2 .result ≡ record { outcome = outcomeOf (n .before .too-deep .result); course = s .args .course } = c .halted2 .ensures in
     record { answer = answer ∙ h .0; losses = undone at (c .before .restore .ensures) ∙ h .1; scratch = at .work-step .ensures .scratch }
 
 fit : (c : tie.Else2) → let a = start (from-judged (c .before)) .args in (a .terms .rate * a .terms .dt < 2 ^ 64) × (a .course .pumped + a .terms .rate * a .terms .dt < 2 ^ 64) × (a .course .time + a .terms .dt < 2 ^ 64)
 fit c = totals-fit (asked (start (from-judged (c .before))))
 
+-- no number halts the step
+untouched : (c : tie.Else2) → let s = start (from-judged (c .before)) in 0 ≡ halts (held s) (s .args .terms .intake) (s .args .course)
+untouched c = sym (c .if2 .left) ∙ number-is (c .before)
+
+-- so the well's D after it is within the limit
+drawdown-by-requires : tie.Need-drawdown-by-requires
+drawdown-by-requires c κs =
+    let at = from-judged (c .before) in
+    let q = asked (start at) in
+    rw (well-worked at) (q .wellLoss, depth-within q (untouched c), q .workable .wellStorage, start at .pre .1 .0 .1)
+
+depth-is : (c : tie.After-drawdown-by) → let s = start (from-judged (c .before .before)) in pos (c .drawdown-by .result) ≡ depthOf (wellAfter (held s)) (s .args .terms .«well_storage»)
+depth-is c = rw (well-worked (from-judged (c .before .before))) at (c .drawdown-by .ensures)
+
+raised-requires : tie.Need-raised-requires
+raised-requires c κs = ≤ℤ-pos (rw (sym (depth-is c)) at (depth-within (asked (start (from-judged (c .before .before)))) (untouched (c .before))))
+
+mark-is : (c : tie.After-raised) → let s = start (from-judged (c .before .before .before)) in
+    toZ w64 (ofZ w64 (c .raised .result)) ≡ larger (s .args .course .mark) (pos (c .before .drawdown-by .result))
+mark-is c =
+    let s = start (from-judged (c .before .before .before)) in
+    let raised : c .raised .result ≡ larger (toZ w64 (ofZ w64 (s .args .course .mark))) (pos (c .before .drawdown-by .result)) = c .raised .ensures in
+    back (c .raised .result) (c .raised .ok) ∙ raised ∙ ap (λ z. larger z (pos (c .before .drawdown-by .result))) (mark-back (asked s))
+
 mul-pumped : tie.Need-mul-pumped
-mul-pumped c = record { fits = fit (c .before) .0 }
+mul-pumped c = record { fits = fit (c .before .before .before) .0 }
 
 add-pumped : tie.Need-add-pumped
-add-pumped c = record { fits = fit (c .before .before) .1 }
+add-pumped c = record { fits = fit (c .before .before .before .before) .1 }
 
 add-time : tie.Need-add-time
-add-time c = record { fits = fit (c .before .before .before .before) .2 }
+add-time c = record { fits = fit (c .before .before .before .before .before .before) .2 }
 
 returns-3 : tie.Need-returns-3
 returns-3 c =
-    let n = c .before .before .before .before in
+    let m = c .before .before .before .before in
+    let n = m .before .before in
     let at = from-judged (n .before) in
     let s = start at in
-    let h = taken (held s) (s .args .terms .intake) (s .args .course .pumped) (s .args .course .time) (sym (n .if2 .left) ∙ number-is (n .before)) (well-worked at) (inflow-worked at) (losses-worked at) in
+    let h = taken (held s) (s .args .terms .intake) (s .args .course) (untouched n) (well-worked at) (inflow-worked at) (depth-is (m .before)) (mark-is m) (losses-worked at) in
     record { answer = h .0; losses = h .1; scratch = at .work-step .ensures .scratch }
 
 pub advance-spec : {M : Type 1} → statement M
@@ -154,6 +185,8 @@ advance-spec =
     restore-requires
     halted-requires-2
     returns-2
+    drawdown-by-requires
+    raised-requires
     mul-pumped
     add-pumped
     add-time

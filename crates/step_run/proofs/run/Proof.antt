@@ -1,5 +1,5 @@
 -- `step_run::run` meets its contract: what is left of the steps, from where they have come to, comes to what all of them come to from the first.
-use mathlib.Core.Path.{_≡_, sym, ap, _∙_}
+use mathlib.Core.Path.{_≡_, refl, sym, ap, _∙_}
 use mathlib.Core.List.{List}
 use Prim.Native.Nat.{_+_, _-_}
 use native.Mathlib.Omega.{arith}
@@ -7,12 +7,13 @@ use borrow.Author.Needs.{needs}
 use lib.IntN.{ℤ}
 use Rattle.record.specs.declared.Record.{Record}
 use Rattle.record.specs.declared.Answer.{Answer}
+use Rattle.record.specs.declared.Outcome.{Outcome}
 use Rattle.coefficient_cells.specs.Worked.{areasOf}
 use Rattle.validity.specs.Laws.{valid-record, valid-limits}
 use Rattle.step_sweep.specs.Worked.{Scratch}
 use Rattle.step_rules.specs.Step.{stepOf}
-use Rattle.step_rules.specs.Ready.{Ready, withCourse}
-use Rattle.step_rules.proofs.Laws.{few-layers, asks-terms, stepped, scratch-zeros}
+use Rattle.step_rules.specs.Ready.{Ready, courseOf, withCourse}
+use Rattle.step_rules.proofs.Laws.{few-layers, asks-terms, stepped, course-kept, scratch-zeros}
 use Rattle.step_rules.specs.Steps.{stepsOf}
 use Rattle.step_places.specs.Terms.{termsOf}
 use Rattle.step_run.specs.Ran.{ranOf}
@@ -24,6 +25,7 @@ abbrev Inv-loop : tie.InvT-loop
 Inv-loop rate dt steps «record» terms areas multipliers losses₀ depths₀ conductances₀ down₀ before₀ course₀ taken₀ losses depths conductances down before course taken =
     Scratch (terms .layers) (terms .columns) («record» .horizontal) depths conductances down before
     × Ready (withCourse «record» course losses) rate dt
+    × (courseOf (withCourse «record» course losses) ≡ course)
     × (stepsOf rate dt taken (steps - taken) (withCourse «record» course losses) ≡ stepsOf rate dt 0 steps «record»)
 
 abbrev μ-loop : tie.MeasureT-loop
@@ -64,7 +66,7 @@ multipliers-requires : tie.Need-multipliers-requires Inv-loop μ-loop
 multipliers-requires c κs = c .slots-built .ensures
 
 course-of-requires : tie.Need-course-of-requires Inv-loop μ-loop
-course-of-requires c κs = tt
+course-of-requires c κs = termed (c .before .before .before .before) .before .pre .passed
 
 loop-holds : tie.Need-loop-holds Inv-loop μ-loop
 loop-holds c =
@@ -72,7 +74,7 @@ loop-holds c =
     let s = t .before in
     let all : s .args .steps - 0 ≡ s .args .steps = omega arith in
     rw (c .course-of .ensures)
-    (scratch-zeros (t .terms-of .result .layers) (t .terms-of .result .columns) (s .args .t1 .horizontal), s .pre, ap (λ n. stepsOf (s .args .rate) (s .args .dt) 0 n (s .args .t1)) all)
+    (scratch-zeros (t .terms-of .result .layers) (t .terms-of .result .columns) (s .args .t1 .horizontal), s .pre, refl, ap (λ n. stepsOf (s .args .rate) (s .args .dt) 0 n (s .args .t1)) all)
 
 -- ---- one step more
 
@@ -102,7 +104,7 @@ module _ (at : tie.At-loop Inv-loop μ-loop) where
 advance-requires : tie.Need-advance-requires Inv-loop μ-loop
 advance-requires c κs =
     let at = turn c .before in
-    (asks-terms (held at) (a at .args .rate) (a at .args .dt) (at .loop .inv .1) (terms-are at) (areas-are at), ((multiplied (at .before) .multipliers .ensures, termed-at at .terms-of .ensures .1), at .loop .inv .0))
+    (asks-terms (held at) (a at .args .rate) (a at .args .dt) (at .loop .inv .1) (terms-are at) (areas-are at) (at .loop .inv .2), ((multiplied (at .before) .multipliers .ensures, termed-at at .terms-of .ensures .1), at .loop .inv .0))
 
 module _ (c : tie.After-advance Inv-loop μ-loop) where
   abbrev here : tie.In-loop Inv-loop μ-loop
@@ -116,7 +118,10 @@ module _ (c : tie.After-advance Inv-loop μ-loop) where
   left = c .advance .last .1 .1 .1 .1 .1 .1 .1 .1 .0
 
   moved-on : let s = a (here .before) .args in _≡_ {A = Answer} (record { outcome = c .advance .result .outcome; «record» = withCourse was (c .advance .result .course) left }) (stepOf was (s .rate) (s .dt))
-  moved-on = let at = here .before in stepped was (a at .args .rate) (a at .args .dt) (at .loop .inv .1) (terms-are at) (areas-are at) (c .advance .ensures)
+  moved-on = let at = here .before in stepped was (a at .args .rate) (a at .args .dt) (at .loop .inv .1) (terms-are at) (areas-are at) (at .loop .inv .2) (c .advance .ensures)
+
+  kept-on : courseOf (withCourse was (c .advance .result .course) left) ≡ c .advance .result .course
+  kept-on = let at = here .before in course-kept was (a at .args .rate) (a at .args .dt) (at .loop .inv .1) (terms-are at) (areas-are at) (at .loop .inv .2) (c .advance .ensures)
 
 enum-told : tie.Need-enum-told Inv-loop μ-loop
 enum-told c = search needs
@@ -126,8 +131,8 @@ returns c =
     let v = c .before .before .before in
     let at = here v .before in
     let s = a at .args in
-    ran-refused (s .rate) (s .dt) (was v) (moved-on v) (at .loop .taken) (s .steps - at .loop .taken) (omega (arith, here v .loop-test .taken)) _ (c .enum-told .given .1)
-    ∙ ap ranOf (at .loop .inv .2)
+    ran-refused (s .rate) (s .dt) (was v) (v .advance .result) (moved-on v) (at .loop .taken) (s .steps - at .loop .taken) (omega (arith, here v .loop-test .taken)) (kept-on v) _ (c .enum-told .given .1)
+    ∙ ap ranOf (at .loop .inv .3)
 
 enum-told-2 : tie.Need-enum-told-2 Inv-loop μ-loop
 enum-told-2 c = search needs
@@ -149,16 +154,18 @@ loop-again c =
     let s = a at .args in
     let left : s .steps - (at .loop .taken + 1) ≡ s .steps - at .loop .taken - 1 = omega arith in (
       v .advance .ensures .scratch,
-      ready-next (s .rate) (s .dt) (was v) (moved-on v) (at .loop .inv .1),
-      rw left (ran-taken (s .rate) (s .dt) (was v) (moved-on v) (at .loop .taken) (s .steps - at .loop .taken) (omega (arith, here v .loop-test .taken)) (c .enum-told2 .given .1) ∙ at .loop .inv .2),
+      ready-next (s .rate) (s .dt) (was v) (v .advance .result) (moved-on v) (at .loop .inv .1),
+      kept-on v,
+      rw left (ran-taken (s .rate) (s .dt) (was v) (v .advance .result) (moved-on v) (at .loop .taken) (s .steps - at .loop .taken) (omega (arith, here v .loop-test .taken)) (c .enum-told2 .given .1) ∙ at .loop .inv .3),
     )
 
 returns-2 : tie.Need-returns-2 Inv-loop μ-loop
 returns-2 c =
     let at = c .before in
     let s = a at .args in
-    sym (ran-none (s .rate) (s .dt) (held at) (at .loop .taken) (s .steps - at .loop .taken) (omega (arith, c .loop-test .left)))
-    ∙ ap ranOf (at .loop .inv .2)
+    ap (λ x. record { outcome = Outcome.Taken; course = x; losses = at .loop .losses; taken = at .loop .taken }) (sym (at .loop .inv .2))
+    ∙ sym (ran-none (s .rate) (s .dt) (held at) (at .loop .taken) (s .steps - at .loop .taken) (omega (arith, c .loop-test .left)))
+    ∙ ap ranOf (at .loop .inv .3)
 
 pub run-spec : {M : Type 1} → statement M
 run-spec =

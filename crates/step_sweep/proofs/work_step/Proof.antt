@@ -13,11 +13,10 @@ use mir.Facts.{toZ-ofZ}
 use Rattle.laws.specs.Integer.{≤ℤ-pos}
 use Rattle.laws.specs.Signed.{back}
 use Rattle.limits.specs.Limits.{drawdownLimit}
-use Rattle.step_drawdowns.specs.Drawdowns.{depthOf}
 use Rattle.step_flows.specs.Flows.{screenAt}
 use Rattle.step_losses.specs.Losses.{Water, waterIn}
 use Rattle.step_sweep.specs.Worked.{Lent, lent, depth, wellDepth, waterOf, Workable, Scratch}
-use Rattle.step_sweep.proofs.Made.{well-within, Drawn, drawn, depth-le, table-le, flow-right, flow-lower, flow-screen, conductances-again, Lowered, lowered, lowered-at, water-same, sweepable, swept-made, losses-made, before-made, scratch-again}
+use Rattle.step_sweep.proofs.Made.{Drawn, drawn, depth-le, table-le, flow-right, flow-lower, flow-screen, conductances-again, Lowered, lowered, lowered-at, water-same, sweepable, swept-made, losses-made, before-made, scratch-again}
 use Rattle.step_sweep.proofs.work_step.Statement.{statement}
 use Rattle.step_sweep.proofs.work_step.Tie as tie
 
@@ -51,26 +50,21 @@ module _ (w : tie.After-with-pumped) where
 
 -- the drawdowns
 module _ (d : tie.After-drawdowns) where
-  abbrev seen : tie.After-drawdown-by
-  seen = d .before .before .before
-
   abbrev pumped : tie.After-with-pumped
-  pumped = seen .before
+  pumped = d .before .before .before
 
   abbrev first : tie.Start
   first = begun pumped
 
   abbrev well : ℕ
-  well = seen .drawdown-by .result
+  well = first .args .well
 
   abbrev depths : List ℕ
   depths = d .drawdowns .last .1 .1 .1 .1 .1 .0
 
   well-is : pos well ≡ wellDepth (lentTo first)
   unfolding wellDepth
-  well-is =
-      let at-start : pos well ≡ depthOf (toZ w64 (ofZ w64 (first .args .well-loss))) (first .args .terms .«well_storage») = seen .drawdown-by .ensures in
-      at-start ∙ ap (λ z. depthOf z (first .args .terms .«well_storage»)) (toZ-ofZ (first .fits .well-loss))
+  well-is = first .pre .1 .0 .0
 
   well-le : well ≤ drawdownLimit
   well-le = ≤ℤ-pos (rw (sym well-is) at (asked first .well .1))
@@ -125,18 +119,12 @@ with-pumped-requires c κs =
     let p = asked s in
     (p .rate, p .dt, rw (toZ-ofZ (s .fits .well-loss)) (omega (arith, p .wellRoom .rises)))
 
-drawdown-by-requires : tie.Need-drawdown-by-requires
-drawdown-by-requires c κs =
-    let s = begun c in
-    let w = well-within (lentTo s) (asked s) (toZ-ofZ (s .fits .well-loss)) in
-    (w .0, w .1, asked s .wellStorage, s .pre .1 .0 .1)
-
 drawdowns-requires : tie.Need-drawdowns-requires
 unfolding depth
 drawdowns-requires c κs =
-    let s = begun (c .before .before .before) in
+    let s = begun (c .before .before) in
     let p = asked s in
-    ((p .layers .1, omega (arith, p .columns)), (λ k h. (p .losses k h, p .depths k h, p .storages k h), s .pre .1 .0 .0))
+    ((p .layers .1, omega (arith, p .columns)), (λ k h. (p .losses k h, p .depths k h, p .storages k h), s .pre .1 .0 .1))
 
 in-use-requires : tie.Need-in-use-requires
 in-use-requires c κs =
@@ -191,7 +179,6 @@ work-step-spec =
     whole-requires
     sub-stored
     with-pumped-requires
-    drawdown-by-requires
     drawdowns-requires
     in-use-requires
     sub-down-flows

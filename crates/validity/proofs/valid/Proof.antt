@@ -10,13 +10,13 @@ use mir.Val.{toZ, ofZ}
 use Rattle.laws.specs.All.{and-left, and-right}
 use Rattle.record.specs.declared.Record.{Record}
 use Rattle.coefficient_cells.specs.Laws.{judged-site}
-use Rattle.validity.proofs.Checked.{numbersPass, arraysPass, storagePasses, tablePasses, lossesPass, totalsPass, wellPasses, depthsPass, checked, checked-valid, site-passed, some-layer, area-most, table-most, intake-most, well-stores, cells-store, well-natural}
+use Rattle.validity.proofs.Checked.{numbersPass, arraysPass, storagePasses, tablePasses, lossesPass, totalsPass, depthsPass, checked, checked-valid, site-passed, some-layer, area-most, table-most, intake-most, well-stores, cells-store, well-natural}
 use Rattle.validity.proofs.valid.Statement.{statement}
 use Rattle.validity.proofs.valid.Tie as tie
 
 -- ---- the places on the way: after the numbers, the coefficients, the well's storage, C between layers 1 and 2 and the totals, each from the next
 abbrev given : tie.Else1 → Record
-given c = c .before .before .before .before .before .args .t1
+given c = c .before .before .before .before .before .before .args .t1
 
 abbrev numbers : tie.After-coefficients-hold-arg5 → tie.Else1
 numbers c = c .before .before .before .before .before .before .before
@@ -51,10 +51,13 @@ given5 c = given4 (table (c .before))
 
 -- ---- the signed fields, read back from their bits
 well-back : (c : tie.Else1) → toZ w64 (ofZ w64 (given c .«well_loss»)) ≡ given c .«well_loss»
-well-back c = toZ-ofZ (record { sfits = c .before .before .before .struct-told .given .1 .1 .1 .1 .1 .1 .1 .0 .1 })
+well-back c = toZ-ofZ (record { sfits = c .before .before .before .before .struct-told .given .1 .1 .1 .1 .1 .1 .1 .0 .1 })
 
 inflow-back : (c : tie.Else1) → toZ w64 (ofZ w64 (given c .inflow)) ≡ given c .inflow
-inflow-back c = toZ-ofZ (record { sfits = c .before .before .struct-told2 .given .1 .1 .1 .1 .1 .1 .1 .1 .1 .0 .1 })
+inflow-back c = toZ-ofZ (record { sfits = c .before .before .before .struct-told2 .given .1 .1 .1 .1 .1 .1 .1 .1 .1 .0 .1 })
+
+mark-back : (c : tie.Else1) → toZ w64 (ofZ w64 (given c .mark)) ≡ given c .mark
+mark-back c = toZ-ofZ (record { sfits = c .before .before .struct-told3 .given .1 .1 .1 .1 .1 .1 .1 .1 .1 .1 .1 .0 .1 })
 
 -- ---- the tests that were passed
 numbers-passed : (c : tie.Else1) → numbersPass (given c) ≡ true
@@ -92,7 +95,7 @@ numbers-hold-requires c κs = search needs
 returns : tie.Need-returns
 unfolding checked
 returns c =
-    let r = c .before .before .before .before .before .args .t1 in
+    let r = c .before .before .before .before .before .before .args .t1 in
     let e : false ≡ checked r = rw (sym (c .before .numbers-hold .ensures) ∙ not-true _ (c .if1 .taken)) in
     e ∙ checked-valid r
 
@@ -171,7 +174,8 @@ returns-6 c =
     let passed = table (totals (c .before) .before) in
     let at = storage passed in
     let r = given3 at in
-    let tested : c .drawdowns-hold .result ≡ (wellPasses r && depthsPass r) = rw (well-back (numbers (coefficients at .before .before))) at (c .drawdowns-hold .ensures) in
+    let signed = numbers (coefficients at .before .before) in
+    let tested : c .drawdowns-hold .result ≡ depthsPass r = rw (well-back signed, mark-back signed) at (c .drawdowns-hold .ensures) in
     let e : c .drawdowns-hold .result ≡ checked r = rw (before-totals passed, totals-passed (totals (c .before))) tested in
     e ∙ checked-valid r
 

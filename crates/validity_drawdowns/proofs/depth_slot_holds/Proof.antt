@@ -1,13 +1,12 @@
 -- `validity_drawdowns::depth_slot_holds`: the tests on the way are the definition's.
 use mathlib.Core.Path.{_≡_, sym, ap, _∙_}
-use mathlib.Core.Bool.{true, not}
-use native.Mathlib.Nat.{le-refl}
+use mathlib.Core.Bool.{true, false, not}
 use borrow.Author.Needs.{needs}
-use borrow.Author.Tests.{not-true, not-false, lt-ltb, le-ltb}
+use borrow.Author.Tests.{not-true, not-false, le-leb, lt-leb}
 use mir.Facts.{toZ-ofZ}
 use Rattle.coefficient_slots.specs.Slots.{usedSlot}
 use Rattle.coefficient_slots.specs.Held.{inside}
-use Rattle.validity_drawdowns.specs.Drawdowns.{depthSlotHolds}
+use Rattle.validity_drawdowns.specs.Drawdowns.{deeper, depthSlotHolds}
 use Rattle.validity_drawdowns.proofs.depth_slot_holds.Statement.{statement}
 use Rattle.validity_drawdowns.proofs.depth_slot_holds.Tie as tie
 
@@ -16,6 +15,16 @@ start c = c .before .before
 
 used : (c : tie.Else1) → usedSlot (inside (start c .args .layers) (start c .args .columns)) (start c .args .k) ≡ true
 used c = sym (c .before .slot-used .ensures) ∙ not-false _ (c .if1 .left)
+
+-- D against the mark
+tested : (c : tie.After-deeper-than) → let a = start (c .before) .args in c .deeper-than .result ≡ deeper (a .mark) (a .storage) (a .loss)
+tested c = rw (toZ-ofZ (start (c .before) .fits .loss)) at (c .deeper-than .ensures)
+
+abbrev from-mark : tie.Else2 → tie.Else1
+from-mark c = c .before .before
+
+marked : (c : tie.Else2) → let a = start (from-mark c) .args in deeper (a .mark) (a .storage) (a .loss) ≡ false
+marked c = sym (tested (c .before)) ∙ c .if2 .left
 
 slot-used-requires : tie.Need-slot-used-requires
 slot-used-requires c κs = search needs
@@ -26,21 +35,28 @@ returns c = rw (sym (c .before .slot-used .ensures) ∙ not-true _ (c .if1 .take
 
 deeper-than-requires : tie.Need-deeper-than-requires
 deeper-than-requires c κs =
-    let s = start (c .before) in
-    (s .pre .0, s .pre .1 (used (c .before)) .0, rw (toZ-ofZ (s .fits .loss)) (s .pre .1 (used (c .before)) .1))
+    let s = start c in
+    (s .pre .1, s .pre .2 (used c) .0, rw (toZ-ofZ (s .fits .loss)) (s .pre .2 (used c) .1))
 
 returns-2 : tie.Need-returns-2
 unfolding depthSlotHolds
-returns-2 c = rw (used (c .before .before), lt-ltb _ _ (c .before .if2 .taken)) (ap not (rw (toZ-ofZ (start (c .before .before) .fits .loss)) at (c .deeper-than .ensures)))
-
-deeper-than-requires-2 : tie.Need-deeper-than-requires-2
-deeper-than-requires-2 c κs =
-    let s = start (c .before) in
-    (le-refl _, s .pre .1 (used (c .before)) .0, rw (toZ-ofZ (s .fits .loss)) (s .pre .1 (used (c .before)) .1))
+returns-2 c = rw (used (c .before .before), sym (tested (c .before)) ∙ c .if2 .taken)
 
 returns-3 : tie.Need-returns-3
 unfolding depthSlotHolds
-returns-3 c = rw (used (c .before .before), le-ltb _ _ (c .before .if2 .left)) (ap not (rw (toZ-ofZ (start (c .before .before) .fits .loss)) at (c .deeper-than2 .ensures)))
+returns-3 c = rw (used (from-mark (c .before)), marked (c .before), le-leb _ _ (c .if3 .taken))
+
+deeper-than-requires-2 : tie.Need-deeper-than-requires-2
+deeper-than-requires-2 c κs =
+    let at = from-mark (c .before) in
+    let s = start at in
+    (s .pre .0, s .pre .2 (used at) .0, rw (toZ-ofZ (s .fits .loss)) (s .pre .2 (used at) .1))
+
+returns-4 : tie.Need-returns-4
+unfolding depthSlotHolds
+returns-4 c =
+    let at = from-mark (c .before .before) in
+    rw (used at, marked (c .before .before), lt-leb _ _ (c .before .if3 .left)) (ap not (rw (toZ-ofZ (start at .fits .loss)) at (c .deeper-than2 .ensures)))
 
 pub depth-slot-holds-spec : {M : Type 1} → statement M
 depth-slot-holds-spec =
@@ -50,5 +66,6 @@ depth-slot-holds-spec =
     returns
     deeper-than-requires
     returns-2
+    returns-3
     deeper-than-requires-2
-    returns-3)
+    returns-4)

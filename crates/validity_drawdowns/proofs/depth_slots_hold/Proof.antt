@@ -14,10 +14,10 @@ use Rattle.validity_drawdowns.proofs.depth_slots_hold.Statement.{statem
 use Rattle.validity_drawdowns.proofs.depth_slots_hold.Tie as tie
 
 abbrev Inv-loop : tie.InvT-loop
-Inv-loop layers columns table storages losses k₀ k = (k ≤ 1000) × (allBelow k (λ n. depthSlotHolds layers columns table n (getD storages n 0) (getD losses n (pos 0))) ≡ true)
+Inv-loop layers columns table mark storages losses k₀ k = (k ≤ 1000) × (allBelow k (λ n. depthSlotHolds layers columns table mark n (getD storages n 0) (getD losses n (pos 0))) ≡ true)
 
 abbrev μ-loop : tie.MeasureT-loop
-μ-loop layers columns table storages losses k₀ k = 1000 - k
+μ-loop layers columns table mark storages losses k₀ k = 1000 - k
 
 loop-holds : tie.Need-loop-holds Inv-loop μ-loop
 loop-holds c = (omega arith, all-none _)
@@ -36,7 +36,7 @@ element-copy-out-depth-slot-holds-2 c = omega arith
 
 -- the test of a slot, by the signed number that its bits hold
 tested : (c : tie.After-depth-slot-holds Inv-loop μ-loop) → let at = c .before .before .before .before in let a = at .before .args in
-    c .depth-slot-holds .result ≡ depthSlotHolds (a .layers) (a .columns) (a .table) (at .loop .k) (getD (a .storages .now) (at .loop .k) 0) (getD (a .losses .now) (at .loop .k) (pos 0))
+    c .depth-slot-holds .result ≡ depthSlotHolds (a .layers) (a .columns) (a .table) (a .mark) (at .loop .k) (getD (a .storages .now) (at .loop .k) 0) (getD (a .losses .now) (at .loop .k) (pos 0))
 tested c = let at = c .before .before .before .before in rw (back (getD (at .before .args .losses .now) (at .loop .k) (pos 0)) (c .before .depth-slot-holds-arg2 .given)) at (c .depth-slot-holds .ensures)
 
 depth-slot-holds-requires : tie.Need-depth-slot-holds-requires Inv-loop μ-loop
@@ -44,7 +44,7 @@ depth-slot-holds-requires c κs =
     let at = c .before .before .before in
     let s = at .before in
     let k = at .loop .k in
-    (s .pre .0, λ e. (s .pre .1 .storage k (omega arith) e, rw (back (getD (s .args .losses .now) k (pos 0)) (c .depth-slot-holds-arg2 .given)) (s .pre .1 .loss k (omega arith) e)))
+    (s .pre .0, s .pre .1, λ e. (s .pre .2 .storage k (omega arith) e, rw (back (getD (s .args .losses .now) k (pos 0)) (c .depth-slot-holds-arg2 .given)) (s .pre .2 .loss k (omega arith) e)))
 
 returns : tie.Need-returns Inv-loop μ-loop
 unfolding depthSlotsHold

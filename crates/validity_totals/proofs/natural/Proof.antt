@@ -1,6 +1,6 @@
 -- `validity_totals::natural`: what the test says of the sign.
 use mir.Facts.{toZ-ofZ}
-use Rattle.validity_totals.proofs.Laws.{negative-test, natural-test}
+use Rattle.laws.specs.Signed.{negative-test, natural-test}
 use Rattle.validity_totals.proofs.natural.Statement.{statement}
 use Rattle.validity_totals.proofs.natural.Tie as tie
 

@@ -2,7 +2,7 @@
 use mathlib.Core.Path.{refl}
 use native.Mathlib.Omega.{arith}
 use mir.Facts.{toZ-ofZ}
-use Rattle.validity_totals.proofs.Laws.{is-natural, size-small}
+use Rattle.laws.specs.Signed.{is-natural, size-small}
 use Rattle.validity_totals.proofs.size.Statement.{statement}
 use Rattle.validity_totals.proofs.size.Tie as tie
 

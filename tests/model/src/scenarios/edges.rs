@@ -1,5 +1,6 @@
 //! The catalogue of edges: every limit of document 01, as document 02 changes it, that a text can reach,
-//! at its last accepted and first refused value; grids in which many drawdowns are equal; and water tables drawn down far.
+//! at its last accepted and first refused value; grids in which many drawdowns are equal; water tables drawn down far; and wells that
+//! rise under their deepest mark.
 
 use super::damage::line_replaced;
 use super::draft::{text_of, Draft};
@@ -28,6 +29,7 @@ pub fn catalogue() -> Vec<Case> {
     edges.equal_drawdowns();
     edges.below_layer_1();
     edges.water_tables();
+    edges.marks();
     edges.0
 }
 
@@ -455,6 +457,23 @@ impl Edges {
             self.edit(name, &draft, 0, |_| ());
         }
     }
+
+    /// The deepest mark (document 02, N1): bore K, pumped and then at rest; a well that rises while it is pumped less and at rest; one that is
+    /// drawn down deeper after a rest; one that is deepest in the middle of an entry; and an entry whose last step 10 refuses.
+    fn marks(&mut self) {
+        self.edit("k-marks", &bore_k(), 0, |draft| {
+            draft.pumping = vec![[1000, 500_000, 1]; 3];
+            draft.pumping.push([0, 500_000, 1]);
+        });
+        for (name, draft) in [
+            ("mark-rate-drops", two_screens(8000, &[(1000, 60), (300, 60), (0, 60)])),
+            ("mark-deeper-later", two_screens(8000, &[(600, 40), (0, 40), (900, 40)])),
+            ("mark-in-the-middle", swinging()),
+            ("mark-refused-10", two_screens(700, &[(1000, 40), (0, 20), (300, 20)])),
+        ] {
+            self.edit(name, &draft, 0, |_| ());
+        }
+    }
 }
 
 /// A draft with steps of a rate at the longest length that 8 allows, and one µs above it, and a rest.
@@ -535,6 +554,26 @@ fn rising_table(rate: u64) -> Draft {
     let layers =
         vec![[50, 0, 0, 20_000, 300], [100, 0, 200_000, 400_000, 1_000_000], [1000, 1, 1_000_000, 400_000, 1_000_000]];
     pumped(layers, vec![400, 900, 1500], [100, 2000, 149, 50_000], &[(rate, 150), (0, 30), (0, 100)])
+}
+
+/// Two screened layers around a well of little free water, which rises at once where it is pumped less; an intake depth (mm), and entries of
+/// a rate and repeats each.
+fn two_screens(intake: u64, entries: &[(u64, u64)]) -> Draft {
+    let layers = vec![
+        [9000, 0, 500, 30, 200_000],
+        [2000, 1, 90_000, 200, 500_000],
+        [4000, 0, 700, 20, 500_000],
+        [3000, 1, 40_000, 100, 400_000],
+    ];
+    pumped(layers, vec![300, 700, 1600, 3000, 5000], [100, 3000, intake, 20_000], entries)
+}
+
+/// A well whose S is that of the cell beside its screen, with nearly all of both their C between them, so that in a step as long as 8 allows
+/// they nearly change their drawdowns: one step, then three at half the rate, of which the second draws the well down deeper than ever
+/// before and the third lets it rise.
+fn swinging() -> Draft {
+    let layers = vec![[9000, 0, 1000, 10, 200_000], [3000, 0, 1000, 10, 50_000], [10_000, 1, 100_000, 10, 1_000_000]];
+    pumped(layers, vec![150, 2000, 9000], [100, 393, 8999, 20_000], &[(1000, 1), (500, 3), (0, 4)])
 }
 
 /// Columns each nine times as wide as the one before it, pumped and at rest in turn for 2,000 steps.

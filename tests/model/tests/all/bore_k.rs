@@ -1,4 +1,4 @@
-//! The bore K of document 01, whole, with the figures that document 02 (N4, N6) moves.
+//! The bore K of document 01, whole, with the figures that document 02 (N1, N4, N6) moves or adds.
 
 use reference_model::geometry;
 use reference_model::grid::{cell, slot, Place};
@@ -56,23 +56,39 @@ pub fn equal<T: PartialEq + std::fmt::Debug>(what: &str, found: T, wanted: T) ->
 /// The steps of bore K, made with a mistake or none, held to its figures.
 pub fn check_steps(mistake: Option<Mistake>) -> Result<(), String> {
     let mut k = record();
+    equal("start", figures(&k), Ok([0; 7]))?;
     equal("step 1", step_with(&mut k, 1000, 500_000, mistake), Ok(()))?;
+    equal("after step 1", figures(&k), Ok([500_000, 16_666, 500_000_000, 500_000_000, 0, 0, 16_666]))?;
     equal("step 2", step_with(&mut k, 1000, 500_000, mistake), Ok(()))?;
-    equal("entry 1", figures(&k), Ok((1_000_000, 33_015, 1_000_000_000, 990_468_379, 9_531_621, 0)))?;
+    equal("entry 1", figures(&k), Ok([1_000_000, 33_015, 1_000_000_000, 990_468_379, 9_531_621, 0, 33_015]))?;
     equal("inward", readings::flow(&k, cell(2, 1), Place::Well, 500_000), Ok(15_267_409))?;
     equal("from the last column", readings::flow(&k, cell(2, 2), cell(2, 1), 500_000), Ok(3_614_535))?;
     equal("down", readings::flow(&k, cell(1, 1), cell(2, 1), 500_000), Ok(2165))?;
     equal("step 3", step_with(&mut k, 1000, 500_000, mistake), Ok(()))?;
-    equal("entry 2", figures(&k), Ok((1_500_000, 49_173, 1_500_000_000, 1_475_200_970, 21_184_495, 3_614_535)))?;
+    let second = [1_500_000, 49_173, 1_500_000_000, 1_475_200_970, 21_184_495, 3_614_535, 49_173];
+    equal("entry 2", figures(&k), Ok(second))?;
     equal("layer 2", readings::drawdown(&k, cell(2, 1)), Ok(14_046))?;
     equal("longest step", step_with(&mut record(), 1000, 657_001, mistake), Ok(()))?;
-    equal("too long a step", step_with(&mut record(), 1000, 657_002, mistake), Err(Refusal::Stability))
+    equal("too long a step", step_with(&mut record(), 1000, 657_002, mistake), Err(Refusal::Stability))?;
+    check_marks(k, mistake)
 }
 
-/// Time, well's drawdown and budget of a record.
-fn figures(k: &Record) -> Result<(u64, u64, u64, i64, i64, i64), Refusal> {
+/// Bore K's mark after its entries: a step at rate 0, in which the well rises, leaves it, and so does a refused one.
+fn check_marks(mut k: Record, mistake: Option<Mistake>) -> Result<(), String> {
+    equal("rest", step_with(&mut k, 0, 500_000, mistake), Ok(()))?;
+    equal("well at rest", readings::drawdown(&k, Place::Well), Ok(48_503))?;
+    equal("mark at rest", readings::budget(&k).map(|budget| budget.mark), Ok(49_173))?;
+    let mut shallow = start(&changed(INTAKE, 17)).1;
+    equal("to the intake", step_with(&mut shallow, 1000, 500_000, mistake), Ok(()))?;
+    equal("past the intake", step_with(&mut shallow, 1000, 500_000, mistake), Err(Refusal::Intake))?;
+    equal("mark at the intake", readings::budget(&shallow).map(|budget| budget.mark), Ok(16_666))
+}
+
+/// Time, well's drawdown and the five figures of the budget of a record.
+fn figures(k: &Record) -> Result<[i64; 7], Refusal> {
     let (well, budget) = (readings::drawdown(k, Place::Well)?, readings::budget(k)?);
-    Ok((k.time, well, budget.pumped, budget.well_loss, budget.cell_loss, budget.inflow))
+    let [time, well, pumped] = [k.time, well, budget.pumped].map(|number| number as i64);
+    Ok([time, well, pumped, budget.well_loss, budget.cell_loss, budget.inflow, budget.mark])
 }
 
 #[test]

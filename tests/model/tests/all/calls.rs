@@ -139,16 +139,18 @@ impl Drawer<'_> {
         (0..length).map(|_| self.random.word()).collect()
     }
 
-    /// Any other record: the list's own, the start's, one that differs in a drop of water, or none.
+    /// Any other record: the list's own, the start's, one that differs in a drop of water or in its mark, or none.
     fn other(&mut self, record: &Record, start: &Record) -> Record {
         let mut other = if self.random.once_in(2) { record.clone() } else { start.clone() };
-        match self.random.between(0, 4) {
+        let intake = 1000 * other.intake_depth as i64;
+        match self.random.between(0, 5) {
             0 => {
                 other.inflow += 1;
                 other.pumped += 1;
             }
             1 => other.time = self.random.word(),
             2 => other = Record::zero(),
+            3 => other.mark = self.random.one_of(&[other.mark - 1, intake, intake + 1, -1, i64::MIN, i64::MAX]),
             _ => (),
         }
         other
@@ -265,7 +267,8 @@ fn same(ledger: &Ledger, site: &Site, other: &Record) -> Result<bool, Refusal> {
     Ok(counts && depths)
 }
 
-/// The record's losses, totals and time are the ledger's, 14 lets it pass, and the drawdowns keep their bounds.
+/// The record's losses, totals and time are the ledger's, its mark is the greatest D that the ledger's well has had, 14 lets it pass, and
+/// the drawdowns that are read keep their bounds: none is over the mark.
 pub fn check_state(record: &Record, ledger: &Ledger) -> Result<(), String> {
     equal("14", record.fault(), None)?;
     equal("budget", readings::budget(record), Ok(ledger.budget()))?;
@@ -274,14 +277,17 @@ pub fn check_state(record: &Record, ledger: &Ledger) -> Result<(), String> {
         (record.pumped.into(), record.inflow.into(), record.time.into()),
         (ledger.pumped, ledger.inflow, ledger.time),
     )?;
+    equal("mark", i128::from(record.mark), ledger.deepest_well)?;
     equal("well's loss", i128::from(record.well_loss), ledger.places[&Place::Well].loss)?;
     for (layer, column) in record.stored_cells() {
         let (place, at) = (cell(layer, column), reference_model::grid::slot(layer, column));
         equal("cell's loss", i128::from(record.cell_loss[at]), ledger.places[&place].loss)?;
+    }
+    for &place in ledger.places.keys() {
         let depth = readings::drawdown(record, place).map(i128::from);
         equal("drawdown", depth, Ok(ledger.drawdown(place)))?;
-        let bounded = depth.is_ok_and(|depth| (0..=ledger.deepest_well).contains(&depth));
-        equal("drawdown between 0 and the well's greatest", bounded, true)?;
+        let bounded = depth.is_ok_and(|depth| (0..=i128::from(record.mark)).contains(&depth));
+        equal("drawdown between 0 and the mark", bounded, true)?;
     }
     Ok(())
 }

@@ -90,6 +90,8 @@ fn start_and_entries_are_printed() {
     let readings = printed(model_on("k-readings", &["readings"], &k));
     assert!(readings
         .contains("\ninward 500000 2 15267409\nacross 500000 1 0\nacross 500000 2 -3614535\ndown 500000 1 2165\n"));
+    assert!(readings.contains("\nbudget 0 0 0 0 0\n"));
+    assert!(readings.contains("\nbudget 1500000000 1475200970 21184495 3614535 49173\n"));
 }
 
 #[test]
@@ -107,6 +109,11 @@ fn changed_records_are_stepped() {
     for line in ["layers 5 taken", "alone 2 refused 14", "alone 13 taken"] {
         assert!(records.contains(&format!("\n{line}")), "{line}");
     }
+    // The mark at the well's D, one under it, at 1000×p, one over it, and at the ends of a word.
+    for line in ["marks 1 taken", "marks 2 refused 14", "marks 5 taken", "marks 6 refused 14", "marks 15 refused 14"] {
+        assert!(records.contains(&format!("\n{line}")), "{line}");
+    }
+    assert_eq!((records.lines().count(), records.matches("\nmarks ").count()), (1 + 233, 32));
 }
 
 #[test]

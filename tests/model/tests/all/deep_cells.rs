@@ -16,7 +16,7 @@ use reference_model::text::{read, Entry};
 const LOSSES: [[i64; 4]; 4] =
     [[0, 5000, 0, 5999], [5999, 5001, 1999, 0], [9000, 0, 0, 999], [999, 3_000_000, 9500, 1000]];
 
-/// The sample with these losses.
+/// The sample with these losses, and the mark at the deepest.
 fn by_hand() -> Record {
     let mut record = sample();
     for (layer, column) in record.stored_cells() {
@@ -25,6 +25,7 @@ fn by_hand() -> Record {
         record.cell_loss[at] = LOSSES[layer - 1][column - 1];
     }
     record.pumped = LOSSES.as_flattened().iter().sum::<i64>() as u64;
+    record.mark = 9;
     assert_eq!(record.fault(), None);
     record
 }

@@ -17,7 +17,7 @@ use reference_model::step::{judge_stability, step};
 use std::collections::BTreeMap;
 use std::slice::from_mut;
 
-/// The ledger that has an allowed record's coefficients and losses.
+/// The ledger that has an allowed record's coefficients and losses, its well having been as deep as the record's mark.
 fn ledger_of(record: &Record) -> Ledger {
     let stored = |loss: i64, storage: u64| Stored { loss: loss.into(), storage: storage.into() };
     let mut places = BTreeMap::from([(Place::Well, stored(record.well_loss, record.well_s))]);
@@ -42,7 +42,7 @@ fn ledger_of(record: &Record) -> Ledger {
     for layer in 1..=record.layers as usize {
         join(Place::Well, cell(layer, 1), record.well_c[layer - 1], InUse::Whole);
     }
-    let mut ledger = Ledger {
+    Ledger {
         places,
         faces,
         top_thickness: record.thickness[0].into(),
@@ -50,10 +50,8 @@ fn ledger_of(record: &Record) -> Ledger {
         pumped: record.pumped.into(),
         inflow: record.inflow.into(),
         time: record.time.into(),
-        deepest_well: 0,
-    };
-    ledger.deepest_well = ledger.places.keys().map(|&place| ledger.drawdown(place)).max().unwrap();
-    ledger
+        deepest_well: record.mark.into(),
+    }
 }
 
 /// Every slot of a record that holds a number without sign, and every one with.
@@ -81,14 +79,20 @@ fn slots(record: &mut Record) -> (Vec<&mut [u64]>, Vec<&mut [i64]>) {
         from_mut(&mut record.pumped),
         from_mut(&mut record.time),
     ];
-    (whole, vec![from_mut(&mut record.well_loss), &mut record.cell_loss, from_mut(&mut record.inflow)])
+    let signed: Vec<&mut [i64]> = vec![
+        from_mut(&mut record.well_loss),
+        &mut record.cell_loss,
+        from_mut(&mut record.inflow),
+        from_mut(&mut record.mark),
+    ];
+    (whole, signed)
 }
 
 /// Puts any word into any slot.
 fn spoil(random: &mut Random, record: &mut Record) {
     let any = random.word();
-    let edge =
-        random.one_of(&[0, 1, 2, 20, 21, 50, 51, 1_000_000, 1_000_000_000_000_000, u64::MAX, 1 << 63, any, any >> 20]);
+    let limits = [0, 1, 2, 20, 21, 50, 51, 1_000_000, 1_000_000_000_000_000, u64::MAX, u64::MAX >> 1, 1 << 63];
+    let edge = if random.once_in(7) { random.one_of(&[any, any >> 20]) } else { random.one_of(&limits) };
     let (mut whole, mut signed) = slots(record);
     let field = random.between(0, (whole.len() + signed.len()) as u64 - 1) as usize;
     if field < whole.len() {
@@ -152,12 +156,13 @@ fn spoilt_records() {
     assert!(refused > 3000 && allowed > 300, "{refused} refused, {allowed} allowed");
 }
 
-/// Any coefficients and losses within their limits. The C below layer 1 goes with the scenario's numbers, and any Kv_1 above 0 with that C.
+/// Any coefficients and losses within their limits, and a mark that goes with these: as deep as the deepest place, as 1000×p, or between. The
+/// C below layer 1 goes with the scenario's numbers, and any Kv_1 above 0 with that C.
 fn fill_at_random(random: &mut Random, record: &mut Record) {
     let most_c = random.spread(1, 1_000_000_000_000_000);
     let most_s = random.spread(1, 1_000_000_000_000_000_000);
-    let depth = random.spread(1, 1_000_000_000);
     let (intake, bottom) = (1000 * record.intake_depth, 1000 * record.thickness[0]);
+    let depth = random.spread(1, intake);
     let mut left = 4_000_000_000_000_000_000u64;
     let mut loss = |random: &mut Random, storage: u64, bound: u64| {
         let drawdown = random.between(0, depth.min(bound));
@@ -181,10 +186,13 @@ fn fill_at_random(random: &mut Random, record: &mut Record) {
             record.down_c[at] = random.spread(0, most_c);
         }
         record.cell_s[at] = random.spread(1, most_s);
-        record.cell_loss[at] = loss(random, record.cell_s[at], if layer == 1 { bottom } else { 1_000_000_000 });
+        record.cell_loss[at] = loss(random, record.cell_s[at], if layer == 1 { bottom } else { depth });
     }
-    record.well_loss = loss(random, record.well_s, intake);
+    record.well_loss = loss(random, record.well_s, depth);
     record.pumped = record.cell_loss.iter().sum::<i64>() as u64 + record.well_loss as u64;
+    let cells = record.stored_cells().map(|(layer, column)| record.cell_drawdown(layer, column));
+    let deepest = cells.chain([record.well_drawdown()]).max().expect("the well is a place");
+    record.mark = random.one_of(&[deepest, depth, intake]) as i64;
 }
 
 #[test]

@@ -58,12 +58,14 @@ fn two_screens(friction: u64, coefficients: &[u64]) -> Record {
     record
 }
 
-/// Puts losses (nl) at the well and in column 1 of layers 2 and 3.
+/// Puts losses (nl) at the well and in column 1 of layers 2 and 3, and the mark (µm) at the deepest of them.
 fn with_losses(mut record: Record, well: i64, second: i64, third: i64) -> Record {
     record.well_loss = well;
     record.cell_loss[slot(2, 1)] = second;
     record.cell_loss[slot(3, 1)] = third;
     record.pumped = (well + second + third) as u64;
+    let depths = [record.well_drawdown(), record.cell_drawdown(2, 1), record.cell_drawdown(3, 1)];
+    record.mark = depths.into_iter().max().unwrap() as i64;
     assert_eq!(record.fault(), None);
     record
 }

@@ -7,6 +7,7 @@ mod deep_cells;
 mod garbage;
 mod head_losses;
 mod logarithms;
+mod marks;
 mod mistakes;
 mod records;
 mod report_rule;

@@ -16,7 +16,7 @@ fn bore_k_notices_every_mistake() {
 fn call_lists_notice_every_mistake() {
     let scenarios = Scenarios::new(7);
     for mistake in mistake::ALL {
-        let noticed = (0..40).filter(|&number| runs::check_calls(&scenarios, number, Some(mistake)).is_err()).count();
-        assert!(noticed >= 5, "{mistake:?} is noticed by {noticed} lists of 40");
+        let noticed = (0..80).filter(|&number| runs::check_calls(&scenarios, number, Some(mistake)).is_err()).count();
+        assert!(noticed >= 5, "{mistake:?} is noticed by {noticed} lists of 80");
     }
 }

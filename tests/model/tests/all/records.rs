@@ -70,7 +70,7 @@ fn counts() {
     expect(Some("unused layer slot"), |record| record.layers = 3);
     expect(Some("radii"), |record| record.columns = 6);
     expect(Some("unused column slot"), |record| record.columns = 4);
-    assert_eq!(Record::zero().fault(), Some("layer count"));
+    assert_eq!((Record::zero().fault(), Record::zero().mark), (Some("layer count"), 0));
 }
 
 #[test]
@@ -251,25 +251,90 @@ fn totals() {
     });
 }
 
+/// Puts a loss (nl) at the well, whose S is 30,000 nl per µm, and a mark (µm).
+fn set_well(record: &mut Record, loss: i64, mark: i64) {
+    (record.well_loss, record.pumped, record.mark) = (loss, loss as u64, mark);
+}
+
+/// Puts a loss (nl) into a cell, and a mark (µm).
+fn set_cell(record: &mut Record, at: usize, loss: i64, mark: i64) {
+    (record.cell_loss[at], record.pumped, record.mark) = (loss, loss as u64, mark);
+}
+
 #[test]
 fn drawdowns() {
-    // S of the well is 30,000 mm² × 10^6, p is 8000 mm.
+    // p is 8000 mm. The mark is what the drawdown is; over 1000×p there is none that goes with it.
     let most = 8_000_000 * 30_000;
     for (loss, fault) in [(most, None), (most + 29_999, None), (most + 30_000, Some("well's drawdown"))] {
-        expect(fault, |record| (record.well_loss, record.pumped) = (loss, loss as u64));
+        expect(fault, |record| set_well(record, loss, loss / 30_000));
     }
-    let cell = |layer, storage, loss: i64| {
+    // With an S of 10^6 a nl is a µm. The intake is deeper than the cell can be: below the bottom of layer 1, and as deep as it may be.
+    let cell = |layer, top, intake, loss: i64| {
         move |record: &mut Record| {
-            record.cell_s[slot(layer, 2)] = storage;
-            record.cell_loss[slot(layer, 2)] = loss;
-            record.pumped = loss as u64;
+            (record.thickness[0], record.intake_depth) = (top, intake);
+            record.cell_s[slot(layer, 2)] = 1_000_000;
+            set_cell(record, slot(layer, 2), loss, loss);
         }
     };
-    expect(None, cell(1, 1_000_000, 9_000_000));
-    expect(Some("layer 1's drawdown"), cell(1, 1_000_000, 9_000_001));
-    expect(None, cell(2, 1_000_000, 1_000_000_000));
-    expect(Some("cell's drawdown"), cell(2, 1_000_000, 1_000_000_001));
-    expect(Some("cell's drawdown"), cell(4, 1, 4_000_000_000_000_000_000));
+    expect(None, cell(1, 9000, 12_999, 9_000_000));
+    expect(Some("layer 1's drawdown"), cell(1, 9000, 12_999, 9_000_001));
+    expect(None, cell(2, 1_000_000, 1_000_000, 1_000_000_000));
+    expect(Some("cell's drawdown"), cell(2, 1_000_000, 1_000_000, 1_000_000_001));
+    // One that no word holds, and one that would be 0 if it were held in a word.
+    for (loss, mark) in [(4_000_000_000_000_000_000, i64::MAX), (1 << 58, 0)] {
+        expect(Some("cell's drawdown"), |record| {
+            record.cell_s[slot(4, 2)] = 1;
+            set_cell(record, slot(4, 2), loss, mark);
+        });
+    }
+}
+
+#[test]
+fn marks() {
+    let (well, cell) = (Some("mark under the well's drawdown"), Some("mark under a cell's drawdown"));
+    let intake = Some("mark over the intake");
+    // Every drawdown is 0, and 1000×p is 8,000,000.
+    for (mark, fault) in [(-1, well), (0, None), (1, None), (8_000_000, None), (8_000_001, intake)] {
+        expect(fault, |record| record.mark = mark);
+    }
+    for (mark, fault) in [(i64::MIN, well), (i64::MIN + 1, well), (i64::MAX - 1, intake), (i64::MAX, intake)] {
+        expect(fault, |record| record.mark = mark);
+    }
+    // The well at 0, 1, 7 and 8,000,000 µm, where only one mark is allowed.
+    for (loss, depth) in [(0, 0), (29_999, 0), (30_000, 1), (239_999, 7), (240_000_000_000, 8_000_000)] {
+        let marks = [(depth - 1, well), (depth, None), (8_000_000, None), (8_000_001, intake), (i64::MIN, well)];
+        for (mark, fault) in marks {
+            expect(fault, |record| set_well(record, loss, mark));
+        }
+    }
+    // Every stored cell, those of the last stored column among them, at 5 and 8,000,000 µm while the well is at 0.
+    for at in sample().stored_cells().map(|(layer, column)| slot(layer, column)) {
+        for depth in [5, 8_000_000] {
+            let deep = |mark| {
+                move |record: &mut Record| {
+                    record.cell_s[at] = 1_000_000;
+                    set_cell(record, at, depth, mark);
+                }
+            };
+            for (mark, fault) in [(depth, None), (depth - 1, cell), (0, cell), (8_000_000, None), (8_000_001, intake)] {
+                expect(fault, deep(mark));
+            }
+            for (mark, fault) in [(-1, well), (i64::MIN, well), (i64::MAX, intake)] {
+                expect(fault, deep(mark));
+            }
+        }
+    }
+    // A cell over 1000×p has no mark that goes with it.
+    for (mark, fault) in [(8_000_000, cell), (8_000_001, intake), (i64::MAX, intake)] {
+        expect(fault, |record| {
+            record.cell_s[slot(3, 4)] = 1_000_000;
+            set_cell(record, slot(3, 4), 8_000_001, mark);
+        });
+    }
+    // The bound follows p.
+    for (intake_depth, mark, fault) in [(1, 1000, None), (1, 1001, intake), (12_999, 12_999_000, None)] {
+        expect(fault, |record| (record.intake_depth, record.mark) = (intake_depth, mark));
+    }
 }
 
 #[test]
@@ -304,8 +369,28 @@ fn well_drawdown_of_a_step() {
     let bound = 8_000_000 * 30_000;
     for (volume, outcome) in [(29_999, Ok(())), (30_000, Err(Refusal::Intake))] {
         let mut record = still();
-        (record.well_loss, record.pumped) = (bound, bound as u64);
+        set_well(&mut record, bound, 8_000_000);
         assert_eq!(step(&mut record, volume, 1), outcome);
+        assert_eq!(record.mark, 8_000_000);
+    }
+}
+
+#[test]
+fn mark_of_a_step() {
+    // The well goes from 3 to 5 µm; the mark is raised to that, or stays where it is no less.
+    for (mark, after) in [(3, 5), (4, 5), (5, 5), (6, 6), (8_000_000, 8_000_000)] {
+        let mut record = still();
+        set_well(&mut record, 3 * 30_000, mark);
+        assert_eq!(step(&mut record, 60_000, 1), Ok(()));
+        assert_eq!((record.well_drawdown(), record.mark), (5, after));
+    }
+    // A refused step leaves it: one of a mark that 14 refuses, one of no length, and one that would pass the intake.
+    let refused = [(2, 60_000, 1, Refusal::Record), (3, 0, 0, Refusal::Call), (4, 10_000_000, 24_001, Refusal::Intake)];
+    for (mark, rate, length, refusal) in refused {
+        let mut record = still();
+        set_well(&mut record, 3 * 30_000, mark);
+        assert_eq!(step(&mut record, rate, length), Err(refusal));
+        assert_eq!(record.mark, mark);
     }
 }
 
@@ -322,6 +407,7 @@ fn water_table_of_a_step() {
         (record.cell_s[at], record.cell_s[below]) = (1_000_000, 1_000_000);
         (record.cell_loss[at], record.cell_loss[below]) = (8_999_999, 8_999_999 + difference);
         record.pumped = (2 * 8_999_999 + difference) as u64;
+        (record.intake_depth, record.mark) = (12_999, 8_999_999 + difference);
         let before = record.clone();
         assert_eq!(step(&mut record, 0, 1), outcome);
         assert_eq!(record.cell_loss[at], if outcome.is_ok() { 9_000_000 } else { 8_999_999 });

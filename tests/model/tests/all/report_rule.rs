@@ -7,7 +7,7 @@ use reference_model::geometry::{top_vertical_conductance, vertical_conductance};
 use reference_model::grid::{cell, slot};
 use reference_model::random::Random;
 use reference_model::readings::flow;
-use reference_model::record::Record;
+use reference_model::record::{start, Record};
 
 /// What one face's C is worked from: A_j (mm²), b_1 and b_2 (mm), Kv_1 and Kv_2 (nm/s), and s (µm), at most 1000×b_1.
 #[derive(Clone, Copy, Debug)]
@@ -135,15 +135,27 @@ fn c_in_use_falls_as_s_rises() {
     }
 }
 
-/// Bore K with its two cells drawn down, µm.
+/// Bore K with its screen in a layer 3 like its layer 2 and an intake below layer 1, so that the water table may be at the bottom of layer 1.
+fn deeper_screen() -> Record {
+    let mut layers = bore_k::NUMBERS[..11].to_vec();
+    layers.extend(&bore_k::NUMBERS[6..11]);
+    (layers[0], layers[7]) = (3, 0);
+    let others = [2, 500, 1300, 4, 100, 30_000, 11_999, 50_000, 0, 0];
+    let (outcome, record) = start(&bore_k::text_of(&[&layers[..], &others].concat()));
+    assert_eq!(outcome, Ok(()));
+    record
+}
+
+/// That bore with its cells of layers 1 and 2 drawn down, µm, and the mark at the deeper of them.
 fn drawn_down(upper: u64, lower: u64) -> Record {
-    let mut record = bore_k::record();
+    let mut record = deeper_screen();
     for (layer, depth) in [(1, upper), (2, lower)] {
         let at = slot(layer, 1);
         // The least loss that makes this drawdown.
         record.cell_loss[at] = (depth * record.cell_s[at]).div_ceil(1_000_000) as i64;
     }
     record.pumped = record.cell_loss.iter().sum::<i64>() as u64;
+    record.mark = upper.max(lower) as i64;
     assert_eq!((record.fault(), record.cell_drawdown(1, 1), record.cell_drawdown(2, 1)), (None, upper, lower));
     record
 }

@@ -26,9 +26,11 @@ fn stored_texts_show_every_edge_and_refusal() {
     let cases: Vec<Case> = scenarios.different().take(count).collect();
     let texts: BTreeSet<_> = cases.iter().map(|case| &case.text).collect();
     assert_eq!(texts.len(), count, "texts that are equal");
-    for edge in (0..scenarios.whole()).step_by(2).map(|number| scenarios.case(number)) {
+    let edges: Vec<Case> = (0..scenarios.whole()).step_by(2).map(|number| scenarios.case(number)).collect();
+    for edge in &edges {
         assert!(texts.contains(&edge.text), "no {}", edge.name);
     }
+    assert_eq!(cases[count - 1], edges[edges.len() - 1], "a smaller count has every edge");
     assert!(texts.contains(&fs::read(repository().join("examples/bore-k.txt")).unwrap()), "no bore K");
     let listings: String = cases.iter().map(|case| listing(&case.text)).collect();
     for number in 1..=11 {

@@ -16,7 +16,7 @@ use reference_model::text::{numbers, read};
 const MOST_C: u64 = 1_000_000_000_000_000;
 
 /// What became of each entry of an edge, and the record after it.
-fn run(name: &str) -> Vec<(Result<(), Refusal>, Record)> {
+pub fn run(name: &str) -> Vec<(Result<(), Refusal>, Record)> {
     let text = edge(name);
     let (outcome, mut record) = start(&text);
     assert_eq!(outcome, Ok(()), "{name}");
