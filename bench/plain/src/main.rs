@@ -56,7 +56,7 @@ fn top_vertical_conductance(dividend: u128, record: &Record, top_drawdown: i64) 
 struct Run {
     record: Record,
     top_dividends: [u128; COLUMNS],
-    /// D of the well at the start of the step, µm.
+    /// D of the well, µm: after a step it is the next one's at the start.
     well_drawdown: i64,
     /// D of the cells, one at each slot of the record; 0 in the last column.
     drawdown: [i64; CELLS],
@@ -82,13 +82,15 @@ impl Run {
         }
         self.draw_down();
         self.move_water::<1>(volume, length);
-        if let Err(refusal) = self.judge() {
+        let well = drawdown(self.record.well_loss, self.record.well_s);
+        if let Err(refusal) = self.judge(well) {
             self.move_water::<-1>(volume, length);
             return Err(refusal);
         }
         self.record.pumped += volume;
         self.record.time += length;
-        self.record.mark = self.record.mark.max(drawdown(self.record.well_loss, self.record.well_s));
+        self.record.mark = self.record.mark.max(well);
+        self.well_drawdown = well;
         Ok(())
     }
 
@@ -97,9 +99,8 @@ impl Run {
         row * COLUMNS..row * COLUMNS + self.record.columns as usize - 1
     }
 
-    /// D at the start of a step.
+    /// D of the cells at the start of a step.
     fn draw_down(&mut self) {
-        self.well_drawdown = drawdown(self.record.well_loss, self.record.well_s);
         for row in 0..self.record.layers as usize {
             for at in self.slots(row) {
                 self.drawdown[at] = drawdown(self.record.cell_loss[at], self.record.cell_s[at]);
@@ -148,10 +149,10 @@ impl Run {
         }
     }
 
-    /// 10 and 11 on the losses after a step.
-    fn judge(&self) -> Result<(), Refusal> {
+    /// 10 and 11 after a step, on D of the well, µm, and the losses of layer 1.
+    fn judge(&self, well: i64) -> Result<(), Refusal> {
         let record = &self.record;
-        if drawdown(record.well_loss, record.well_s) > 1000 * record.intake_depth as i64 {
+        if well > 1000 * record.intake_depth as i64 {
             return Err(Refusal::Intake);
         }
         let bound = 1000 * record.thickness[0] as i64;

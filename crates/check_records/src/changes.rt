@@ -460,8 +460,8 @@ fn with_verticals(before: Record, upper: u64, lower: u64, c: u64) -> Record {
 
 // The water table at the bottom of layer 1, above a layer 2 that is full and above one that is deeper, 1 µm above the bottom, and halfway;
 // another Kv_1; then a Kv of 0, with the table at the bottom and as it was. Bore K's table cannot be at the bottom, since its intake is above
-// it; that of the deep intake can, and layers 1 and 2 are as large there. Then bore K's table as deep as its intake, one 1 mm above that over a
-// layer 2 that is as deep as the intake, another Kv_1, and a Kv_1 of 0.
+// it; that of the deep intake can, whose layers 1 and 2 have the S of bore K's and the same C between them. Then bore K's table as deep as its
+// intake, one 1 mm above that over a layer 2 that is as deep as the intake, another Kv_1, and a Kv_1 of 0.
 pub fn tables(before: Record, case: u64) -> Record {
     let bottom = with_cell_losses(before, 1507964000000, 0, 1507964000000, 10000000);
     let halfway = with_cell_losses(before, 753982000000, 0, 753982000000, 5000000);

@@ -32,7 +32,7 @@ scenarioGrid s = record {
   intake = s .intake;
 }
 
--- the record at the start: the scenario's numbers, each C and S in its slot, no losses, totals, time or mark yet
+-- the record at the start: the scenario's numbers, each C and S in its slot; losses, totals, time and mark are 0
 unfoldable pub startRecord : Site → Record
 startRecord s = record {
   site = s;

@@ -2,18 +2,17 @@
 --     plus z, minus z       the parts above and below 0: z is plus z − minus z, and one of them is 0
 --     diff-..               sums and opposites of differences
 --     natural               a number that is not below 0 is its size
---     most                  the larger of two natural numbers: at least each, and at most what both are; larger-pos: it is `larger`
---     larger-..             laws of `larger`, of numbers that are not below 0
+--     larger-..             laws of the larger of two numbers
 --     odd-..                products and quotients rounded toward zero change sign with a factor
 use mathlib.Core.Path.{_≡_, refl, sym, ap, _∙_}
-use mathlib.Core.Bool.{Bool, true, false, cond}
-use Prim.Native.Nat.{ℕ, zero, suc, _+_, _*_, _-_, _/_, _≤_, _<_, zero-le}
-use native.Mathlib.Nat.{le-refl, le-trans, le-antisymm, mul-zero, zero-mul, zero-div}
+use mathlib.Core.Bool.{Bool, true, false, cond, false≢true}
+use Prim.Native.Nat.{ℕ, zero, suc, _+_, _*_, _-_, _/_, _≤_, zero-le}
+use native.Mathlib.Nat.{le-trans, le-antisymm, mul-zero, zero-mul, zero-div}
 use native.Mathlib.Omega.{arith}
-use borrow.Author.Tests.{leb-true, leb-false}
-use lib.Dec.{leb, leb→le, le→leb}
+use borrow.Author.Tests.{leb-false}
+use lib.Dec.{leb→le, le→leb}
 use lib.IntN.{ℤ, pos, negsuc, negℤ, natAbs, _+ℤ_, _-ℤ_, _*ℤ_, +ℤ-idl, +ℤ-idr, +ℤ-assoc, +ℤ-comm, negℤ-+ℤ, negℤ-negℤ, +ℤ-negℤ-cancel}
-use lib.Signed.{quotZ, ltZ, _≤ℤ_, leZ-yes, ltZ-no, yes-nonNeg, pos-natAbs}
+use lib.Signed.{quotZ, leZ, ltZ, _≤ℤ_, ≤ℤ-refl, leZ-yes, ltZ-no, yes-nonNeg, pos-natAbs}
 use Rattle.laws.specs.Lists.{larger}
 
 -- ---- sums
@@ -111,48 +110,60 @@ pub +ℤ-natural : {a b : ℤ} → pos 0 ≤ℤ a → pos 0 ≤ℤ b → pos 0 �
 pub not-past : {a b : ℤ} → ltZ a b ≡ false → b ≤ℤ a
 not-past e = ltZ-no (rw e tt)
 
+pub ≤ℤ-trans : (a b c : ℤ) → a ≤ℤ b → b ≤ℤ c → a ≤ℤ c
+≤ℤ-trans (pos a) (pos b) (pos c) h k = pos-≤ℤ (le-trans (≤ℤ-pos h) (≤ℤ-pos k))
+≤ℤ-trans (pos a) (pos b) (negsuc c) h k = absurd (k .le)
+≤ℤ-trans (pos a) (negsuc b) c h k = absurd (h .le)
+≤ℤ-trans (negsuc a) b (pos c) h k = leZ-yes tt
+≤ℤ-trans (negsuc a) (pos b) (negsuc c) h k = absurd (k .le)
+≤ℤ-trans (negsuc a) (negsuc b) (negsuc c) h k = leZ-yes (le→leb c a (le-trans (leb→le c b (k .le)) (leb→le b a (h .le))))
+
+pub ≤ℤ-antisym : (a b : ℤ) → a ≤ℤ b → b ≤ℤ a → a ≡ b
+≤ℤ-antisym (pos a) (pos b) h k = ap pos (le-antisymm (≤ℤ-pos h) (≤ℤ-pos k))
+≤ℤ-antisym (pos a) (negsuc b) h k = absurd (h .le)
+≤ℤ-antisym (negsuc a) (pos b) h k = absurd (k .le)
+≤ℤ-antisym (negsuc a) (negsuc b) h k = ap negsuc (le-antisymm (leb→le a b (k .le)) (leb→le b a (h .le)))
+
+pub not-above : (a b : ℤ) → leZ a b ≡ false → b ≤ℤ a
+not-above (pos a) (pos b) e = pos-≤ℤ (omega (arith, leb-false a b e))
+not-above (pos a) (negsuc b) e = leZ-yes tt
+not-above (negsuc a) (pos b) e = absurd (false≢true (sym e))
+not-above (negsuc a) (negsuc b) e = leZ-yes (le→leb a b (omega (arith, leb-false b a e)))
+
 -- ---- the larger of two numbers
 
-unfoldable pub most : ℕ → ℕ → ℕ
-most a b = cond (leb a b) b a
+pub larger-first : (a b : ℤ) → leZ a b ≡ false → larger a b ≡ a
+unfolding larger
+larger-first a b e = rw e
 
-pub larger-pos : (a b : ℕ) → larger (pos a) (pos b) ≡ pos (most a b)
-unfolding larger most
-larger-pos a b = by-test (leb a b)
+pub larger-second : (a b : ℤ) → leZ a b ≡ true → larger a b ≡ b
+unfolding larger
+larger-second a b e = rw e
+
+-- at least each of the two, and at most what both are
+pub larger-bounds : (a b : ℤ) → (a ≤ℤ larger a b) × (b ≤ℤ larger a b) × ((M : ℤ) → a ≤ℤ M → b ≤ℤ M → larger a b ≤ℤ M)
+unfolding larger
+larger-bounds a b = by-test (leZ a b) refl
   where
-    by-test : (t : Bool) → cond t (pos b) (pos a) ≡ pos (cond t b a)
-    by-test true = refl
-    by-test false = refl
+    by-test : (t : Bool) → leZ a b ≡ t → (a ≤ℤ cond t b a) × (b ≤ℤ cond t b a) × ((M : ℤ) → a ≤ℤ M → b ≤ℤ M → cond t b a ≤ℤ M)
+    by-test true e = (leZ-yes (rw e tt), ≤ℤ-refl b, λ M h k. k)
+    by-test false e = (≤ℤ-refl a, not-above a b e, λ M h k. h)
 
-pub most-bounds : (a b : ℕ) → (a ≤ most a b) × (b ≤ most a b) × ((M : ℕ) → a ≤ M → b ≤ M → most a b ≤ M)
-unfolding most
-most-bounds a b = by-test (leb a b) (leb-true a b) (leb-false a b)
-  where
-    by-test : (t : Bool) → (t ≡ true → a ≤ b) → (t ≡ false → b < a) → (a ≤ cond t b a) × (b ≤ cond t b a) × ((M : ℕ) → a ≤ M → b ≤ M → cond t b a ≤ M)
-    by-test true low high = (low refl, le-refl b, λ M h k. k)
-    by-test false low high = (le-refl a, omega (arith, high refl), λ M h k. h)
-
-pub larger-natural : {a b : ℤ} → pos 0 ≤ℤ a → pos 0 ≤ℤ b → pos 0 ≤ℤ larger a b
-larger-natural h k = rw (natural h, natural k, larger-pos) (pos-≤ℤ zero-le)
-
-pub larger-assoc : {a b c : ℤ} → pos 0 ≤ℤ a → pos 0 ≤ℤ b → pos 0 ≤ℤ c → larger (larger a b) c ≡ larger a (larger b c)
-larger-assoc {a} {b} {c} ha hb hc = rw (natural ha, natural hb, natural hc) (go (natAbs a) (natAbs b) (natAbs c))
-  where
-    go : (a b c : ℕ) → larger (larger (pos a) (pos b)) (pos c) ≡ larger (pos a) (larger (pos b) (pos c))
-    go a b c =
-        let inner = most-bounds b c in
-        let left = most-bounds a b in
-        let outer = most-bounds a (most b c) in
-        let right = most-bounds (most a b) c in
-        rw (larger-pos a b, larger-pos b c, larger-pos (most a b) c, larger-pos a (most b c)) (ap pos (le-antisymm
-        (right .2 _ (left .2 _ (outer .0) (le-trans (inner .0) (outer .1))) (le-trans (inner .1) (outer .1)))
-        (outer .2 _ (le-trans (left .0) (right .0)) (inner .2 _ (le-trans (left .1) (right .0)) (right .1)))))
-
-pub larger-comm : (a b : ℕ) → larger (pos a) (pos b) ≡ larger (pos b) (pos a)
+pub larger-comm : (a b : ℤ) → larger a b ≡ larger b a
 larger-comm a b =
-    let one = most-bounds a b in
-    let other = most-bounds b a in
-    rw (larger-pos a b, larger-pos b a) (ap pos (le-antisymm (one .2 _ (other .1) (other .0)) (other .2 _ (one .1) (one .0))))
+    let one = larger-bounds a b in
+    let other = larger-bounds b a in
+    ≤ℤ-antisym (larger a b) (larger b a) (one .2 _ (other .1) (other .0)) (other .2 _ (one .1) (one .0))
+
+pub larger-assoc : (a b c : ℤ) → larger (larger a b) c ≡ larger a (larger b c)
+larger-assoc a b c =
+    let inner = larger-bounds b c in
+    let left = larger-bounds a b in
+    let outer = larger-bounds a (larger b c) in
+    let right = larger-bounds (larger a b) c in
+    ≤ℤ-antisym (larger (larger a b) c) (larger a (larger b c))
+    (right .2 _ (left .2 _ (outer .0) (≤ℤ-trans _ _ _ (inner .0) (outer .1))) (≤ℤ-trans _ _ _ (inner .1) (outer .1)))
+    (outer .2 _ (≤ℤ-trans _ _ _ (left .0) (right .0)) (inner .2 _ (≤ℤ-trans _ _ _ (left .1) (right .0)) (right .1)))
 
 -- ---- signs
 

@@ -1,24 +1,18 @@
 -- The accepted steps of a run: laws only, nothing to believe.
 --     Steps N s ts s′    the accepted steps ts lead from the state s to s′
 --     conserved-over     they conserve water
---     kept-over          they lead from a kept state to a kept one
 --     one-more           one accepted step more; greatest-more: the largest D that the well has had is raised by it, or stays
 use mathlib.Core.Path.{_≡_, sym, ap, _∙_}
 use mathlib.Core.Bool.{Bool}
 use mathlib.Core.List.{List, [], _∷_, _++_}
 use Prim.Native.Nat.{ℕ, _*_}
 use lib.IntN.{ℤ, pos, negℤ, _+ℤ_, _-ℤ_, +ℤ-idr, negℤ-+ℤ}
-use lib.Signed.{_≤ℤ_}
-use Rattle.laws.specs.Integer.{+ℤ-swap, regroup, natural, larger-natural, larger-assoc, larger-comm}
+use Rattle.laws.specs.Integer.{+ℤ-swap, regroup, larger-assoc, larger-comm}
 use Rattle.laws.specs.Lists.{larger, ifℤ, sumℕ, sumℤ}
 use Rattle.laws.specs.Sums.{ifℤ-add, ifℤ-pos, ifℕ-zero}
-use Rattle.network.specs.Network.{Network, State, atRest, drawdown, flow, inward, lossIn, moved, refusal}
-use Rattle.network.specs.Kept.{Proper, Kept}
+use Rattle.network.specs.Network.{Network, State, drawdown, flow, inward, lossIn, moved, refusal}
 use Rattle.network.specs.laws.Ends.{Inside}
 use Rattle.network.specs.laws.Conserve.{conserved}
-use Rattle.network.specs.laws.Preserve.{kept-moved, kept-at-rest}
-use Rattle.validity.specs.Laws.{depth-natural}
-use Rattle.start_laws.specs.Laws.{rest-depth}
 use Rattle.ledger.specs.Ledger.{Accepted, pumpedBy, netInto, greatest}
 
 pub data Steps (N : Network) : State → List Accepted → State → Type 0 where
@@ -58,35 +52,16 @@ module _ (N : Network) (A : ℕ → Bool) where
       turn : (a b c d : ℤ) → (a +ℤ b -ℤ c) +ℤ d ≡ a +ℤ ((b -ℤ c) +ℤ d)
       turn a b c d = simp regroup
 
--- ---- the largest D that the well has had
-module _ (N : Network) (proper : Proper N) where
-  pub kept-over : {s s′ : State} {ts : List Accepted} → Kept N s → Steps N s ts s′ → Kept N s′
-  kept-over kept none = kept
-  kept-over kept (more {s} {rate = rate} {dt} e rest) = kept-over (kept-moved N proper s kept rate dt e) rest
+-- ---- one accepted step more
+module _ (N : Network) (rate dt : ℕ) where
+  pub one-more : {s s′ : State} {ts : List Accepted} → Steps N s ts s′ → refusal N s′ rate dt ≡ 0
+      → Steps N s (ts ++ (record { before = s′; rate = rate; length = dt } ∷ [])) (moved N s′ rate dt)
+  one-more none e = more e none
+  one-more (more d rest) e = more d (one-more rest e)
 
-  greatest-natural : {s s′ : State} {ts : List Accepted} → Kept N s → Steps N s ts s′ → pos 0 ≤ℤ greatest N ts
+  -- the largest D that the well has had is raised by it, or stays
+  pub greatest-more : (s : State) (ts : List Accepted)
+      → larger (greatest N ts) (drawdown N (moved N s rate dt .losses) 0) ≡ greatest N (ts ++ (record { before = s; rate = rate; length = dt } ∷ []))
   unfolding greatest
-  greatest-natural kept none = depth-natural N proper (atRest N) (kept-at-rest N) 0
-  greatest-natural kept (more {s} {rate = rate} {dt} {ts} e rest) =
-      let next = kept-moved N proper s kept rate dt e in
-      larger-natural (depth-natural N proper (moved N s rate dt) next 0) (greatest-natural next rest)
-
-  -- one accepted step more
-  module _ (rate dt : ℕ) where
-    pub one-more : {s s′ : State} {ts : List Accepted} → Steps N s ts s′ → refusal N s′ rate dt ≡ 0
-        → Steps N s (ts ++ (record { before = s′; rate = rate; length = dt } ∷ [])) (moved N s′ rate dt)
-    one-more none e = more e none
-    one-more (more d rest) e = more d (one-more rest e)
-
-    -- the largest D that the well has had is raised by it, or stays
-    pub greatest-more : {s s′ : State} {ts : List Accepted} → Kept N s → Steps N s ts s′ → refusal N s′ rate dt ≡ 0
-        → larger (greatest N ts) (drawdown N (moved N s′ rate dt .losses) 0) ≡ greatest N (ts ++ (record { before = s′; rate = rate; length = dt } ∷ []))
-    unfolding greatest
-    greatest-more kept (none {s}) e =
-        let next = kept-moved N proper s kept rate dt e in
-        rw (rest-depth N 0, natural (depth-natural N proper (moved N s rate dt) next 0)) (larger-comm 0 _)
-    greatest-more kept (more {s} {s′} {rate = r} {dt = d} first rest) e =
-        let next = kept-moved N proper s kept r d first in
-        let last = kept-moved N proper s′ (kept-over next rest) rate dt e in
-        larger-assoc (depth-natural N proper (moved N s r d) next 0) (greatest-natural next rest) (depth-natural N proper (moved N s′ rate dt) last 0)
-        ∙ ap (larger (drawdown N (moved N s r d .losses) 0)) (greatest-more next rest e)
+  greatest-more s [] = larger-comm _ _
+  greatest-more s (t ∷ ts) = larger-assoc _ _ _ ∙ ap (larger (drawdown N (moved N (t .before) (t .rate) (t .length) .losses) 0)) (greatest-more s ts)

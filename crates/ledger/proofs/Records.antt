@@ -12,13 +12,10 @@ use Rattle.laws.specs.Lists.{larger}
 use Rattle.network.specs.Network.{Network, State, atRest, moved, refusal}
 use Rattle.network.specs.Network as network
 use Rattle.network.specs.Grid.{networkOf}
-use Rattle.network.specs.Kept.{Proper}
-use Rattle.network.specs.laws.Preserve.{kept-at-rest}
 use Rattle.site.specs.declared.Site.{Site}
 use Rattle.record.specs.declared.Record.{Record}
 use Rattle.coefficients.specs.Coefficients.{scenarioGrid}
-use Rattle.validity.specs.Laws.{valid-record, valid-proper}
-use Rattle.start_laws.specs.Laws.{Carries, network-is}
+use Rattle.start_laws.specs.Laws.{Carries}
 use Rattle.start_laws.specs.Steps.{outcome-is, carries-on, mark-on}
 use Rattle.ledger.specs.Calls.{Reading, drawdown, budget, loss, flow, deep, same, sameAs, headLoss, Call, step, read, Reply, replyTo, left, leftByAll, repliesTo}
 use Rattle.ledger.specs.Ledger.{afterCall, afterCalls, outcomesFrom, Accepted, acceptedFrom, greatest}
@@ -48,23 +45,20 @@ module _ (scenario : Site) where
   runs-step {ts} {s} {r} h rate dt = record {
     carries = carries-left (h .carries) (step rate dt);
     steps = stepped (eqb (refusal N s rate dt) 0) (eqb-true (refusal N s rate dt) 0);
-    mark = mark-on (h .carries) rate dt ∙ marked (eqb (refusal N s rate dt) 0) (eqb-true (refusal N s rate dt) 0);
+    mark = mark-on (h .carries) rate dt ∙ marked (eqb (refusal N s rate dt) 0);
   }
     where
-      proper : Proper N
-      proper = rw (network-is (h .carries)) at (valid-proper r (valid-record r (h .carries .valid)))
-
       more : List Accepted
       more = record { before = s; rate = rate; length = dt } ∷ []
 
       stepped : (t : Bool) → (t ≡ true → refusal N s rate dt ≡ 0) → Steps N (atRest N) (ts ++ cond t more []) (cond t (moved N s rate dt) s)
-      stepped true e = one-more N proper rate dt (h .steps) (e refl)
+      stepped true e = one-more N rate dt (h .steps) (e refl)
       stepped false e = rw (append-nil ts) (h .steps)
 
-      marked : (t : Bool) → (t ≡ true → refusal N s rate dt ≡ 0)
+      marked : (t : Bool)
           → cond t (larger (r .mark) (network.drawdown N (moved N s rate dt .losses) 0)) (r .mark) ≡ greatest N (ts ++ cond t more [])
-      marked true e = rw (h .mark) (greatest-more N proper rate dt (kept-at-rest N) (h .steps) (e refl))
-      marked false e = rw (append-nil ts) (h .mark)
+      marked true = rw (h .mark) (greatest-more N rate dt s ts)
+      marked false = rw (append-nil ts) (h .mark)
 
   pub runs-left : {ts : List Accepted} {s : State} {r : Record} → Runs scenario ts s r → (c : Call)
       → Runs scenario (stepsAfter scenario ts s c) (afterCall N s c) (left r c)

@@ -42,7 +42,7 @@ pub record Holds (text : List ℕ) (calls : List Call) (replies : List Reply) (r
   pub state : stateOf r ≡ ledgerOf text calls
   -- 14 does not refuse the record
   pub accepted : valid r ≡ true
-  -- its mark is the largest D that the ledger's well has had
+  -- its mark is the largest D that the ledger's well has had (document 02, N1)
   pub mark : r .mark ≡ greatest (networkFrom text) (acceptedOf text calls)
   -- the budget reading gives the ledger's pumped total, well's loss, all cells' loss and inflow total, and that largest D
   pub budget : budgetOf r ≡ balanceOf 0 (record {
@@ -62,6 +62,6 @@ pub record Holds (text : List ℕ) (calls : List Call) (replies : List Reply) (r
       → drawdownOf r p ≡ amountOf 0 (drawdown (networkFrom text) (ledgerOf text calls .losses) (numberOf (gridFrom text) p))
   pub natural : (p : Place) → isNamed (gridFrom text) p ≡ true
       → pos 0 ≤ℤ drawdown (networkFrom text) (ledgerOf text calls .losses) (numberOf (gridFrom text) p)
-  -- and at most the mark, in the well and in the aquifer
+  -- and at most the mark, in the well and in the aquifer (N1)
   pub within : (p : Place) → isNamed (gridFrom text) p ≡ true
       → drawdown (networkFrom text) (ledgerOf text calls .losses) (numberOf (gridFrom text) p) ≤ℤ r .mark

@@ -16,11 +16,12 @@ use Rattle.limits.specs.Limits.{totalLimit}
 use Rattle.network.specs.Network.{Network, State, drawdown, lossIn}
 use Rattle.network.specs.Grid.{networkOf}
 use Rattle.network.specs.Kept.{Proper, Kept}
+use Rattle.network.specs.laws.Bounds.{depth-natural}
 use Rattle.network.specs.laws.Totals.{size, size-is, all-lost}
 use Rattle.record.specs.declared.Record.{Record}
 use Rattle.record.specs.Record.{gridOf, stateOf}
 use Rattle.validity.specs.Validity.{valid}
-use Rattle.validity.specs.Laws.{valid-record, valid-proper, depth-natural}
+use Rattle.validity.specs.Laws.{valid-record, valid-proper}
 use Rattle.readings.specs.declared.Place.{Place}
 use Rattle.readings.specs.declared.Totals.{Totals}
 use Rattle.readings.specs.Readings.{amountOf, balanceOf, numberOf, drawdownOf, totalsIn, budgetOf}

@@ -1,4 +1,4 @@
-// The water budget of a record, and the storage loss of a set of its places.
+// The water budget of a record with its mark, and the storage loss of a set of its places.
 use limits::CELL_PLACES;
 use limits::COLUMN_PLACES;
 use readings::Amount;

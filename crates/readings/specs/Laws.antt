@@ -1,6 +1,6 @@
 -- What the proofs of the readings share: laws only, nothing to believe.
 --     amount-refused, amount-given     the answer at the first test that holds, and where none does; balance-..: of the budget
---     well-back, inflow-back, mark-back   the machine reads back the well's loss, the inflow total and the mark as they are
+--     well-back, inflow-back           the machine reads back the well's loss and the inflow total as they are
 use mathlib.Core.Path.{_≡_, ap}
 use mathlib.Core.Bool.{Bool}
 use mathlib.Core.List.{List}
@@ -10,7 +10,6 @@ use lib.IntN.{ℤ, natAbs}
 use mir.Syntax.{w64}
 use mir.Val.{toZ, ofZ}
 use mir.Facts.{toZ-ofZ}
-use Rattle.laws.specs.Integer.{abs-up-to}
 use Rattle.laws.specs.Lists.{first}
 use Rattle.laws.specs.Refusal.{First, first-is}
 use Rattle.laws.specs.Signed.{small-fits}
@@ -22,7 +21,7 @@ use Rattle.network.specs.Kept.{Kept}
 use Rattle.network.specs.laws.Totals.{size, all-lost}
 use Rattle.record.specs.declared.Record.{Record}
 use Rattle.record.specs.Record.{gridOf, stateOf}
-use Rattle.validity.specs.Laws.{Valid, valid-proper, mark-natural, mark-most}
+use Rattle.validity.specs.Laws.{Valid, valid-proper}
 use Rattle.readings.specs.declared.Amount.{Amount}
 use Rattle.readings.specs.declared.Totals.{Totals}
 use Rattle.readings.specs.declared.Balance.{Balance}
@@ -63,6 +62,3 @@ module _ (r : Record) (v : Valid r) where
   pub inflow-back : toZ w64 (ofZ w64 (r .inflow)) ≡ r .inflow
   unfolding stateOf
   inflow-back = toZ-ofZ (small-fits (r .inflow) (inflow-small (networkOf (gridOf r)) (stateOf r) (v .kept)) (omega arith))
-
-  pub mark-back : toZ w64 (ofZ w64 (r .mark)) ≡ r .mark
-  mark-back = toZ-ofZ (small-fits (r .mark) (abs-up-to (mark-natural r v, mark-most r v)) (omega arith))

@@ -27,7 +27,7 @@ pub struct Totals {
     pub well_loss: i64,
     pub cell_loss: i64,
     pub inflow: i64,
-    pub mark: i64, // the largest D that the well has had since start, µm
+    pub mark: i64, // the record's mark, µm
 }
 
 pub enum Balance {

@@ -22,7 +22,7 @@ pub struct Record {
     pub pumped: u64, // pumped total, nl
     pub inflow: i64, // inflow total, nl
     pub time: u64, // µs
-    pub mark: i64, // the largest D that the well has had since start, µm
+    pub mark: i64, // deepest mark (document 02, N1): the largest D of the well since start, µm
 }
 
 // What became of a scenario text or a step.

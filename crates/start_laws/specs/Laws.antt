@@ -2,13 +2,11 @@
 --     Carries scenario s r   14 does not refuse r, and r holds the scenario's numbers, C and S, and the state s
 --     counted, network-is    so the scenario's counts are within their limits, and the network of r is the scenario's
 --     screen-is, ..          and so is C of each face: of the well and a screened layer, of two columns (across-is), of two layers (down-is)
---     rest-depth             at rest every D is 0
 --     begun                  the record that start gives for an accepted text carries the scenario at rest; begun-mark: its mark is 0
 use mathlib.Core.Path.{_≡_, refl, sym, ap, _∙_}
 use mathlib.Core.Bool.{Bool, true, cond, not, _&&_, or-true}
 use mathlib.Core.List.{List}
 use Prim.Native.Nat.{ℕ, suc, _+_, _≤_, _<_, zero-le}
-use native.Mathlib.Nat.{zero-div}
 use native.Mathlib.Omega.{arith}
 use borrow.Author.Tests.{eq-eqb, not-false}
 use lib.Dec.{eqb}
@@ -25,9 +23,9 @@ use Rattle.laws.specs.Pointwise.{every-from}
 use Rattle.laws.specs.Refusal.{passed, first-none, first-after}
 use Rattle.laws.specs.Rows.{both-hold, all-from}
 use Rattle.limits.specs.Limits.{layerPlaces, columnPlaces, coefficientPlaces, cellPlaces}
-use Rattle.network.specs.Network.{Network, State, atRest, lossAt, drawdown}
+use Rattle.network.specs.Network.{Network, State, atRest}
 use Rattle.network.specs.Grid.{networkOf}
-use Rattle.network.specs.laws.Preserve.{kept-at-rest}
+use Rattle.network.specs.laws.Preserve.{depth-at-rest, kept-at-rest}
 use Rattle.text.specs.Text.{wellFormed, numbers}
 use Rattle.site.specs.declared.Site.{Site}
 use Rattle.site.specs.Site.{isScreened, countsHold, numbersHold, radiiHold, screenHolds}
@@ -94,10 +92,9 @@ start-table s counts j one k =
     let known = site.counts-hold s counts in
     rw (start-slotted s) (down-at (λ used n. cond used n 0) s known 0 j (omega (arith, known .layers-least)) one k)
 
--- ---- at rest every D is 0
-pub rest-depth : (N : Network) (p : ℕ) → drawdown N (atRest N .losses) p ≡ pos 0
-unfolding drawdown atRest lossAt
-rest-depth N p = rw (getD-same (N .places) p (pos 0), zero-div)
+-- ---- at rest no D is over a mark of 0
+at-rest : (N : Network) → Marked N (atRest N .losses) (pos 0)
+at-rest N = record { depths = λ p h. rw (depth-at-rest N p) (≤ℤ-refl (pos 0)); intake = pos-≤ℤ zero-le }
 
 -- ---- what an accepted text has passed
 record Passed (text : List ℕ) : Type 0 where
@@ -130,10 +127,6 @@ module _ (text : List ℕ) where
         screen = not-false _ (after5 .0);
         coefficients = not-false _ (after6 .0);
       }
-
-  -- at rest no D is over a mark of 0
-  at-rest : (N : Network) → Marked N (atRest N .losses) (pos 0)
-  at-rest N = record { depths = λ p h. rw (rest-depth N p) (≤ℤ-refl (pos 0)); intake = pos-≤ℤ zero-le }
 
   passed-valid : Passed text → valid (startRecord (scenarioOf text)) ≡ true
   unfolding startRecord scenarioOf

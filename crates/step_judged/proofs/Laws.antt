@@ -7,7 +7,7 @@
 --     taken             and where none does
 --     judged            the number of 10 and 11 is the one that halts the step, where 9 does not
 --     restored          the losses before the step, where the slots before the last layer's last column are given back
-use mathlib.Core.Path.{_≡_, sym, _∙_}
+use mathlib.Core.Path.{_≡_, refl, sym, _∙_}
 use mathlib.Core.Bool.{true, false}
 use mathlib.Core.Logic.{inl, inr, ⊎-elim}
 use mathlib.Core.List.{List}
@@ -39,7 +39,7 @@ use Rattle.step_sweep.specs.Worked.{Lent, lent, slotCount, wellFlow, toLast, sl
 use Rattle.step_judged.specs.declared.Course.{Course}
 use Rattle.step_judged.specs.declared.Advanced.{Advanced}
 use Rattle.step_conditions.specs.Conditions.{totalsFull}
-use Rattle.step_judged.specs.Course.{tooDeep, wellDeep, halts, courseAfter, lossesKept, advancedOf, keptOf, Advancing}
+use Rattle.step_judged.specs.Course.{tooDeep, depthAfter, wellDeep, halts, courseAfter, lossesKept, advancedOf, keptOf, Advancing}
 
 -- ---- what fits a word
 
@@ -70,7 +70,7 @@ module _ {a : Lent} {p : ℕ} {c : Course} (q : Advancing a p c) where
   mark-back = toZ-ofZ (small-fits (c .mark) (abs-up-to (q .mark)) (omega arith))
 
   -- 10 lets the step pass: the well's D after it is within the limit
-  pub depth-within : 0 ≡ halts a p c → depthOf (wellAfter a) (a .wellStorage) ≤ℤ pos drawdownLimit
+  pub depth-within : 0 ≡ halts a p c → depthAfter a ≤ℤ pos drawdownLimit
   unfolding halts depthOf deeper
   depth-within e =
       let later = passed (totalsFull (c .pumped) (c .time) (a .rate) (a .dt)) 8 _ (sym e) .1 in
@@ -89,14 +89,14 @@ module _ (a : Lent) (p : ℕ) (c : Course) where
   pub halted-is : (n : ℕ) → 0 < n → n ≡ halts a p c → Halted n
   unfolding advancedOf keptOf courseAfter lossesKept
   halted-is zero h e = absurd (omega arith)
-  halted-is (suc n) h e = (rw (← e), rw (← e))
+  halted-is (suc n) h e = (rw (← e) refl, rw (← e) refl)
 
   pub halted-9 : totalsFull (c .pumped) (c .time) (a .rate) (a .dt) ≡ true → Halted 9
   unfolding halts
   halted-9 e = halted-is 9 (omega arith) (first-is (hit e))
 
   pub taken : 0 ≡ halts a p c
-      → {well inflow mark : ℤ} {depth : ℕ} → well ≡ wellAfter a → inflow ≡ inflowAfter a → pos depth ≡ depthOf (wellAfter a) (a .wellStorage) → mark ≡ larger (c .mark) (pos depth)
+      → {well inflow mark : ℤ} {depth : ℕ} → well ≡ wellAfter a → inflow ≡ inflowAfter a → pos depth ≡ depthAfter a → mark ≡ larger (c .mark) (pos depth)
       → {ls : List ℤ} → ls ≡ lossesOf a
       → (_≡_ {A = Advanced}
       (record { outcome = Taken; course = record { «well_loss» = well; «well_depth» = depth; pumped = c .pumped + a .rate * a .dt; inflow = inflow; time = c .time + a .dt; mark = mark } })

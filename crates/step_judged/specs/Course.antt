@@ -26,6 +26,10 @@ tooDeep terms wellLoss storages losses = first (
     ∷ (not (tableWithin (terms .columns) (terms .thickness) storages losses), 11)
     ∷ [])
 
+-- the well's D after a step
+abbrev pub depthAfter : Lent → ℤ
+depthAfter a = depthOf (wellAfter a) (a .wellStorage)
+
 module _ (a : Lent) (intake : ℕ) (c : Course) where
   -- 10: the well's D passes 1000×p
   abbrev pub wellDeep : Bool
@@ -39,21 +43,17 @@ module _ (a : Lent) (intake : ℕ) (c : Course) where
   unfoldable pub halts : ℕ
   halts = first ((totalsFull (c .pumped) (c .time) (a .rate) (a .dt), 9) ∷ (wellDeep, 10) ∷ (tableDeep, 11) ∷ [])
 
-  -- the well's D after the step
-  abbrev pub depthAfter : ℤ
-  depthAfter = depthOf (wellAfter a) (a .wellStorage)
-
   -- what becomes of a step that this number forbids
   unfoldable pub courseAfter : ℕ → Advanced
   courseAfter zero = record {
     outcome = outcomeOf zero;
     course = record {
       «well_loss» = wellAfter a;
-      «well_depth» = natAbs depthAfter;
+      «well_depth» = natAbs (depthAfter a);
       pumped = c .pumped + a .rate * a .dt;
       inflow = inflowAfter a;
       time = c .time + a .dt;
-      mark = larger (c .mark) depthAfter;
+      mark = larger (c .mark) (depthAfter a);
     };
   }
   courseAfter (suc n) = record { outcome = outcomeOf (suc n); course = c }

@@ -25,7 +25,7 @@ pub struct Course {
     pub pumped: u64, // pumped total, nl
     pub inflow: i64, // inflow total, nl
     pub time: u64, // µs
-    pub mark: i64, // the largest D that the well has had since start, µm
+    pub mark: i64, // the record's mark, µm
 }
 
 // What became of one step, and the course after it; a refused step leaves the course as it was.

@@ -25,7 +25,7 @@ use Rattle.laws.specs.Sums.{or-no}
 use Rattle.limits.specs.Limits.{rateLimit, lengthLimit}
 use Rattle.network.specs.Network.{Network, State, lossAt, storageAt, drawdown, lossesAfter, moved, lengthOut, rateOrLengthOut, stable, unstable, totalsPass, wellTooDeep, tableTooDeep, stepTests}
 use Rattle.network.specs.Grid.{place, onePerPlace, networkOf}
-use Rattle.network.specs.laws.Bounds.{losses-after}
+use Rattle.network.specs.laws.Bounds.{depth-natural, losses-after}
 use Rattle.network.specs.laws.Places.{place-below}
 use Rattle.site.specs.Laws.{counts-hold, numbers-hold}
 use Rattle.site.specs.Limited.{Counts}
@@ -34,7 +34,7 @@ use Rattle.record.specs.declared.Answer.{Answer}
 use Rattle.record.specs.declared.Outcome.the-variants.{Refused}
 use Rattle.record.specs.Record.{slot, gridOf, stateOf, outcomeOf, answerOf}
 use Rattle.validity.specs.Validity.{valid}
-use Rattle.validity.specs.Laws.{Valid, valid-record, valid-proper, depth-natural, mark-natural, mark-most}
+use Rattle.validity.specs.Laws.{Valid, valid-record, valid-proper, mark-natural, mark-most, mark-back as kept-mark}
 use Rattle.validity_drawdowns.specs.Drawdowns.{deeper}
 use Rattle.step_conditions.specs.Conditions.{totalsFull, Filled}
 use Rattle.step_conditions.specs.Laws.{well-network, table-network}
@@ -153,7 +153,7 @@ module _ (r : Record) (rate dt : ℕ) where
     inflow-back = course.inflow-back asks
 
     pub mark-back : toZ w64 (ofZ w64 (r .mark)) ≡ r .mark
-    mark-back = course.mark-back asks
+    mark-back = kept-mark r v
 
     -- ---- the answer
 

@@ -12,7 +12,7 @@ use lib.IntN.{ℤ, pos, natAbs}
 use lib.ListN.{length, getD}
 use lib.Signed.{_≤ℤ_}
 use borrow.Author.Tests.{lt-ltb, not-false}
-use Rattle.laws.specs.Integer.{natural, pos-≤ℤ, ≤ℤ-pos, ≤ℤ-up, not-past, most, larger-pos, most-bounds}
+use Rattle.laws.specs.Integer.{natural, ≤ℤ-trans, not-past, larger-bounds}
 use Rattle.laws.specs.Lists.{larger}
 use Rattle.laws.specs.Refusal.{passed}
 use Rattle.laws.specs.Rows.{all-from}
@@ -30,7 +30,7 @@ use Rattle.record.specs.Record.{slot, slots, isCell, gridOf, stateOf, outcomeOf
 use Rattle.record.specs.Laws.{outcome-of, kept-of}
 use Rattle.coefficient_slots.specs.Slots.{usedSlot, coefficientsUnused}
 use Rattle.validity.specs.Validity.{isZeroℤ, lossesUnused, valid}
-use Rattle.validity.specs.Laws.{Marked, Valid, valid-record, record-valid, valid-proper, depth-natural, mark-natural}
+use Rattle.validity.specs.Laws.{Marked, Valid, valid-record, record-valid, valid-proper, mark-natural}
 use Rattle.step_rules.specs.Step.{withState, stepRefusal, stepOf}
 
 module _ (r : Record) (rate dt : ℕ) where
@@ -108,37 +108,27 @@ module _ (r : Record) (rate dt : ℕ) (ok : valid r ≡ true) (e : stepRefusal r
   unfolding networkOf
   state-is = same-state r next (counts-hold (r .site) (v .counts)) (kept .listed)
 
-  -- the mark and the well's D after the step
-  abbrev before : ℕ
-  before = natAbs (r .mark)
+  -- the mark after the step
+  abbrev raised : ℤ
+  raised = larger (r .mark) (drawdown N (next .losses) 0)
 
-  abbrev reached : ℕ
-  reached = natAbs (drawdown N (next .losses) 0)
-
-  before-is : r .mark ≡ pos before
-  before-is = natural (mark-natural r v)
-
-  reached-is : drawdown N (next .losses) 0 ≡ pos reached
-  reached-is = natural (depth-natural N (valid-proper r v) next kept 0)
-
-  mark-is : larger (r .mark) (drawdown N (next .losses) 0) ≡ pos (most before reached)
-  mark-is = ap₂ larger before-is reached-is ∙ larger-pos before reached
-
-  -- the maximum principle at the mark
-  under-mark : (p : ℕ) → p < N .places → drawdown N (next .losses) p ≤ℤ pos (most before reached)
+  -- the maximum principle at the mark before it
+  under-mark : (p : ℕ) → p < N .places → drawdown N (next .losses) p ≤ℤ raised
   unfolding moved unstable
-  under-mark zero h = subst (λ z. z ≤ℤ pos (most before reached)) (sym reached-is) (pos-≤ℤ (most-bounds before reached .1))
+  under-mark zero h = larger-bounds (r .mark) _ .1
   under-mark (suc p) h =
-      ≤ℤ-up _ (depths-after N (valid-proper r v) (stateOf r) (v .kept) dt (not-false (stable N dt) (accepted N (stateOf r) rate dt taken .steady)) rate before
-      (λ q k. subst (λ m. drawdown N (stateOf r .losses) q ≤ℤ m) before-is (v .marked .depths q k)) (suc p) h (λ z. absurd (omega arith)))
-      (most-bounds before reached .0)
+      ≤ℤ-trans _ (r .mark) _
+      (subst (λ m. drawdown N (next .losses) (suc p) ≤ℤ m) (sym before)
+      (depths-after N (valid-proper r v) (stateOf r) (v .kept) dt (not-false (stable N dt) (accepted N (stateOf r) rate dt taken .steady)) rate (natAbs (r .mark))
+      (λ q k. subst (λ m. drawdown N (stateOf r .losses) q ≤ℤ m) before (v .marked .depths q k)) (suc p) h (λ z. absurd (omega arith))))
+      (larger-bounds (r .mark) _ .0)
+    where
+      before : r .mark ≡ pos (natAbs (r .mark))
+      before = natural (mark-natural r v)
 
-  marked : Marked N (next .losses) (larger (r .mark) (drawdown N (next .losses) 0))
+  marked : Marked N (next .losses) raised
   unfolding wellTooDeep
-  marked = subst (Marked N (next .losses)) (sym mark-is) (record {
-    depths = under-mark;
-    intake = pos-≤ℤ (most-bounds before reached .2 _ (≤ℤ-pos (subst (λ m. m ≤ℤ pos (1000 * N .intake)) before-is (v .marked .intake))) (≤ℤ-pos (subst (λ z. z ≤ℤ pos (1000 * N .intake)) reached-is (not-past (kept .well)))));
-  })
+  marked = record { depths = under-mark; intake = larger-bounds (r .mark) _ .2 _ (v .marked .intake) (not-past (kept .well)) }
 
   pub step-valid : valid (withState r next) ≡ true
   unfolding withState coefficientsUnused

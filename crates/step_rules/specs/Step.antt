@@ -11,7 +11,7 @@ use Rattle.record.specs.declared.Answer.{Answer}
 use Rattle.record.specs.Record.{slots, isCell, gridOf, stateOf, answerOf}
 use Rattle.validity.specs.Validity.{valid}
 
--- the record with another state: each cell's loss in its slot, and the mark, which the well's D there may raise (N1)
+-- the record with another state: each cell's loss in its slot; the mark, µm, is the larger of what it was and the well's D in that state (N1)
 unfoldable pub withState : Record → State → Record
 withState r s = record {
   site = r .site;

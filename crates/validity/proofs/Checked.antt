@@ -46,6 +46,9 @@ slot-passes true (negsuc n) f e = absurd (false≢true (f refl))
 slot-passes false (negsuc n) f e = absurd (false≢true e)
 
 -- ---- the tests and 14
+abbrev pub depthsPass : Record → Bool
+depthsPass r = depthsHold (r .site .layers) (r .site .columns) (1000 * getD (r .site .thickness) 0 0) (1000 * r .site .intake) (r .mark) (r .storages) (r .losses) (r .«well_storage») (r .«well_loss»)
+
 within : (n : ℕ) (z : ℤ) → z ≤ℤ pos n → ltZ (pos n) z ≡ false
 within n (pos m) h = le-ltb n m (≤ℤ-pos h)
 within n (negsuc m) h = refl
@@ -85,17 +88,14 @@ module _ (r : Record) (counts : countsHold (r .site) ≡ true) (numbers : number
   abbrev table : ℕ
   table = 1000 * getD (r .site .thickness) 0 0
 
-  -- D of a slot
+  -- whether D of slot k is past a limit
   abbrev deeperAt : ℕ → ℕ → Bool
   deeperAt limit k = deeper limit (getD (r .storages) k 0) (getD (r .losses) k (pos 0))
-
-  abbrev depthsOf : Bool
-  depthsOf = depthsHold (r .site .layers) (r .site .columns) table (1000 * r .site .intake) (r .mark) (r .storages) (r .losses) (r .«well_storage») (r .«well_loss»)
 
   -- where the tests hold
   module _ (slots : lossSlotsHold (r .site .layers) (r .site .columns) (r .losses) ≡ true)
       (totals : totalsAgree (r .losses) (r .«well_loss») (r .inflow) (r .pumped) (r .time) ≡ true)
-      (depths : depthsOf ≡ true) where
+      (depths : depthsPass r ≡ true) where
     unused : lossesUnused r ≡ true
     unfolding lossesUnused isCell lossSlotsHold lossSlotHolds
     unused = all-from _ 1000 (λ k h. unused-zero (usedSlot (isCell (r .site)) k) (getD (r .losses) k (pos 0)) (all-at _ 1000 k slots h))
@@ -248,7 +248,7 @@ module _ (r : Record) (counts : countsHold (r .site) ≡ true) (numbers : number
           at-cell i zero h a k = absurd (omega arith)
           at-cell i (suc j) h a k = cell-passes i j h k
 
-      depths-pass : depthsOf ≡ true
+      depths-pass : depthsPass r ≡ true
       unfolding depthsHold
       depths-pass = both-hold (both-hold (both-hold (not-below-0 (r .mark) natural-mark) mark-passes) well-passes) depth-slots
 
@@ -271,11 +271,8 @@ module _ (r : Record) where
   abbrev pub totalsPass : Bool
   totalsPass = totalsAgree (r .losses) (r .«well_loss») (r .inflow) (r .pumped) (r .time)
 
-  abbrev pub depthsPass : Bool
-  depthsPass = depthsHold (r .site .layers) (r .site .columns) (1000 * getD (r .site .thickness) 0 0) (1000 * r .site .intake) (r .mark) (r .storages) (r .losses) (r .«well_storage») (r .«well_loss»)
-
   unfoldable pub checked : Bool
-  checked = numbersPass && arraysPass && storagePasses && tablePasses && (lossesPass && totalsPass) && depthsPass
+  checked = numbersPass && arraysPass && storagePasses && tablePasses && (lossesPass && totalsPass) && depthsPass r
 
   -- what the tests before them give the later ones
   pub site-passed : numbersPass ≡ true → (countsHold (r .site) ≡ true) × (numbersHold (r .site) ≡ true) × (radiiHold (r .site) ≡ true) × (screenHolds (r .site) ≡ true)
@@ -329,7 +326,7 @@ module _ (r : Record) where
   forth : checked ≡ true → Valid r
   unfolding checked
   forth e =
-      let all = four-hold (numbersPass && arraysPass && storagePasses) tablePasses (lossesPass && totalsPass) depthsPass e in
+      let all = four-hold (numbersPass && arraysPass && storagePasses) tablePasses (lossesPass && totalsPass) (depthsPass r) e in
       let held = three-hold numbersPass arraysPass storagePasses (all .0) in
       let numbers = held .0 in
       let site = site-passed numbers in

@@ -1,35 +1,38 @@
 -- What `valid` says of a record, for the proofs of this and other crates: laws only, nothing to believe.
---     kept-from, from-kept       the tests of a state's totals and drawdowns, and network's Kept
---     depth-natural              no D of a state that is Kept is below 0
+--     kept-from                  the tests of a state's totals and drawdowns give network's Kept; kept-totals, kept-drawdowns: back
 --     Marked                     what the mark's clauses say
 --     Valid                      what a record that 14 lets pass is
 --     valid-record               from the test; record-valid: back to it
 --     valid-proper               the network of such a record is one on which steps can be taken
---     mark-natural, mark-most    its mark is not below 0, and at most 10^9
+--     mark-natural, mark-most    its mark is not below 0, and at most 10^9; mark-back: so the machine reads it back as it is
 --     valid-limits, table-fits   its numbers are in their limits, and C between layers 1 and 2 at s = 0 fits a word
 --     zero-refused               14 refuses the all-zero record
 use mathlib.Core.Path.{_≡_, refl, ap}
 use mathlib.Core.Bool.{Bool, true, false, not, _&&_, false≢true}
 use mathlib.Core.List.{List}
 use Prim.Native.Nat.{ℕ, _*_, _^_, _≤_, _<_, zero-le}
-use native.Mathlib.Nat.{le-antisymm, le-refl}
+use native.Mathlib.Nat.{le-refl}
 use native.Mathlib.Omega.{arith}
 use borrow.Author.Tests.{leb-true, le-leb, eqb-true, eq-eqb, not-true}
 use lib.Dec.{T, leb, ltb, eqb}
-use lib.IntN.{ℤ, pos, negsuc, natAbs, _+ℤ_}
+use lib.IntN.{ℤ, pos, negsuc, _+ℤ_}
 use lib.ListN.{length}
 use lib.Signed.{leZ, nonNeg, _≤ℤ_, leZ-yes}
+use mir.Facts.{toZ-ofZ}
+use mir.Syntax.{w64}
+use mir.Val.{toZ, ofZ}
 use Rattle.laws.specs.Lists.{allBelow, every}
 use Rattle.laws.specs.All.{all-at, and-left, and-right}
 use Rattle.laws.specs.Every.{every-at}
-use Rattle.laws.specs.Integer.{natural, pos-≤ℤ, ≤ℤ-up}
+use Rattle.laws.specs.Integer.{pos-≤ℤ, ≤ℤ-up, ≤ℤ-trans, ≤ℤ-antisym, abs-up-to}
 use Rattle.laws.specs.Pointwise.{every-from}
 use Rattle.laws.specs.Rows.{both-hold, three-hold, four-hold, all-from}
+use Rattle.laws.specs.Signed.{small-fits}
 use Rattle.limits.specs.Limits.{totalLimit, drawdownLimit}
 use Rattle.network.specs.Network.{Network, State, isPlace, lossAt, drawdown, lossIn, wellTooDeep, tableTooDeep}
 use Rattle.network.specs.Grid.{networkOf}
 use Rattle.network.specs.Kept.{Proper, Kept}
-use Rattle.network.specs.laws.Bounds.{depth-is}
+use Rattle.network.specs.laws.Bounds.{depth-natural}
 use Rattle.network.specs.laws.Places.{length-one}
 use Rattle.network.specs.laws.Proper.{proper-grid}
 use Rattle.geometry.specs.Geometry.{wellStorage}
@@ -62,10 +65,7 @@ not-below-0 (pos n) h = refl
 not-below-0 (negsuc n) h = absurd (h .le)
 
 equal : (a b : ℤ) → equalℤ a b ≡ true → a ≡ b
-equal (pos m) (pos n) e = ap pos (le-antisymm (leb-true m n (and-left (leb m n) (leb n m) e)) (leb-true n m (and-right (leb m n) (leb n m) e)))
-equal (negsuc m) (negsuc n) e = ap negsuc (le-antisymm (leb-true m n (and-right (leb n m) (leb m n) e)) (leb-true n m (and-left (leb n m) (leb m n) e)))
-equal (pos m) (negsuc n) e = absurd (false≢true e)
-equal (negsuc m) (pos n) e = absurd (false≢true e)
+equal a b e = ≤ℤ-antisym a b (leZ-yes (so (and-left (leZ a b) (leZ b a) e))) (leZ-yes (so (and-right (leZ a b) (leZ b a) e)))
 
 itself : (a : ℤ) → equalℤ a a ≡ true
 itself (pos n) = rw (le-leb n n (le-refl n))
@@ -73,7 +73,7 @@ itself (negsuc n) = rw (le-leb n n (le-refl n))
 
 -- ---- a state's totals and drawdowns
 module _ (N : Network) (s : State) (listed : length (s .losses) ≡ N .places) where
-  pub kept-from : totalsHold N s ≡ true → drawdownsHold N (s .losses) ≡ true → Kept N s
+  kept-from : totalsHold N s ≡ true → drawdownsHold N (s .losses) ≡ true → Kept N s
   unfolding totalsHold drawdownsHold lossAt
   kept-from t d =
       let balance = equalℤ (lossIn N (isPlace N) (s .losses) +ℤ s .inflow) (pos (s .pumped)) in
@@ -92,7 +92,7 @@ module _ (N : Network) (s : State) (listed : length (s .losses) ≡ N .places) w
       }
 
 module _ (N : Network) (s : State) (kept : Kept N s) where
-  pub kept-totals : totalsHold N s ≡ true
+  kept-totals : totalsHold N s ≡ true
   unfolding totalsHold lossAt
   kept-totals =
       both-hold (both-hold (both-hold (both-hold
@@ -102,15 +102,11 @@ module _ (N : Network) (s : State) (kept : Kept N s) where
       (le-leb _ _ (kept .pumped)))
       (le-leb _ _ (kept .time))
 
-  pub kept-drawdowns : drawdownsHold N (s .losses) ≡ true
+  kept-drawdowns : drawdownsHold N (s .losses) ≡ true
   unfolding drawdownsHold
   kept-drawdowns =
       both-hold (both-hold (ap not (kept .well)) (ap not (kept .table)))
       (all-from _ (N .places) (λ p h. holds _ (kept .depths p h .le)))
-
--- no D of such a state is below 0
-pub depth-natural : (N : Network) → Proper N → (s : State) → Kept N s → (p : ℕ) → pos 0 ≤ℤ drawdown N (s .losses) p
-depth-natural N proper s kept p = rw (depth-is N proper s kept p) (pos-≤ℤ zero-le)
 
 -- ---- the mark: no D over it, and itself not over 1000×p
 pub record Marked (N : Network) (vs : List ℤ) (mark : ℤ) : Type 0 where
@@ -213,14 +209,13 @@ module _ (r : Record) where
       (numbers-hold (r .site) (v .numbers) .layer 1 (omega (arith, counts-hold (r .site) (v .counts) .layers-least)) .thickness-least) (v .table)
 
   pub mark-natural : Valid r → pos 0 ≤ℤ r .mark
-  mark-natural v = above (r .mark) (depth-natural (networkOf (gridOf r)) (valid-proper v) (stateOf r) (v .kept) 0) (v .marked .depths 0 (valid-proper v .well))
-    where
-      above : {a : ℤ} (b : ℤ) → pos 0 ≤ℤ a → a ≤ℤ b → pos 0 ≤ℤ b
-      above (pos n) h k = pos-≤ℤ zero-le
-      above {a} (negsuc n) h k = let below : pos (natAbs a) ≤ℤ negsuc n = rw (natural h) at k in absurd (below .le)
+  mark-natural v = ≤ℤ-trans _ _ _ (depth-natural (networkOf (gridOf r)) (valid-proper v) (stateOf r) (v .kept) 0) (v .marked .depths 0 (valid-proper v .well))
 
   pub mark-most : Valid r → r .mark ≤ℤ pos drawdownLimit
   mark-most v = ≤ℤ-up (r .mark) (v .marked .intake) (valid-proper v .intake)
+
+  pub mark-back : Valid r → toZ w64 (ofZ w64 (r .mark)) ≡ r .mark
+  mark-back v = toZ-ofZ (small-fits (r .mark) (abs-up-to (mark-natural v, mark-most v)) (omega arith))
 
   pub valid-limits : Valid r → InLimits (r .site)
   valid-limits v = judged-site (r .site) (v .counts) (v .numbers) (v .radii)

@@ -44,7 +44,7 @@ unfoldable pub drawdownsHold : Network → List ℤ → Bool
 drawdownsHold N vs =
     not (wellTooDeep N vs) && not (tableTooDeep N vs) && allBelow (N .places) (λ p. leZ (drawdown N vs p) (pos drawdownLimit))
 
--- ---- no D of the well or of a cell is over the mark, nor the mark over 1000×p (N1)
+-- ---- no D of the well or of a cell is over the mark, µm, nor the mark over 1000×p (N1)
 unfoldable pub markHolds : Network → List ℤ → ℤ → Bool
 markHolds N vs mark = allBelow (N .places) (λ p. leZ (drawdown N vs p) mark) && leZ mark (pos (1000 * N .intake))
 

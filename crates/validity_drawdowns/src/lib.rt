@@ -66,8 +66,8 @@ fn depth_slots_hold<'a>(
     true
 }
 
-// The mark is not below 0 nor past `intake`, µm; no D is past the mark, nor in layer 1 past `table`. That no D is past `intake` in the well, nor
-// past 10^9 µm in a cell, follows from these and is not tested again.
+// The mark is not past `intake`, µm; no D is past the mark, nor in layer 1 past `table`. A mark below 0 is under the well's D, which is not below 0
+// here. That the well's D is not past `intake`, nor a cell's past 10^9 µm, follows from these and is not tested again.
 pub fn drawdowns_hold<'a>(
     layers: usize,
     columns: usize,
@@ -85,12 +85,12 @@ pub fn drawdowns_hold<'a>(
     if mark < 0 {
         return false;
     }
-    let most = mark as u64;
-    if intake < most {
+    let deepest = mark as u64;
+    if intake < deepest {
         return false;
     }
-    if deeper_than(most, well_storage, well_loss) {
+    if deeper_than(deepest, well_storage, well_loss) {
         return false;
     }
-    depth_slots_hold(layers, columns, table, most, storages, losses)
+    depth_slots_hold(layers, columns, table, deepest, storages, losses)
 }

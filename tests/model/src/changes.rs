@@ -397,8 +397,8 @@ fn set_table_halfway(record: &mut Record) {
 
 /// The water table at the bottom of layer 1, above a layer 2 that is full and above one that is deeper, 1 µm above the bottom, and halfway;
 /// another Kv_1; then a Kv of 0, with the table at the bottom and as it was. Bore K's table cannot be at the bottom, since its intake is
-/// above it; that of the deep intake can, and layers 1 and 2 are as large there. Then bore K's table as deep as its intake, one 1 mm above
-/// that over a layer 2 that is as deep as the intake, another Kv_1, and a Kv_1 of 0.
+/// above it; that of the deep intake can, whose layers 1 and 2 have the S of bore K's and the same C between them. Then bore K's table as
+/// deep as its intake, one 1 mm above that over a layer 2 that is as deep as the intake, another Kv_1, and a Kv_1 of 0.
 const TABLES: [Change; 14] = [
     set_table_at_bottom,
     |record| set_cell_losses(record, 1_507_964_000_000, 18_095_568_000, 12_000_000),

@@ -6,13 +6,14 @@ use lib.IntN.{pos, _-ℤ_, +ℤ-idl}
 use Rattle.laws.specs.Lists.{ifℤ}
 use Rattle.network.specs.Network.{atRest, lossIn}
 use Rattle.network.specs.Grid.{networkOf}
-use Rattle.network.specs.laws.Preserve.{loss-in-at-rest}
+use Rattle.network.specs.laws.Bounds.{depth-natural}
+use Rattle.network.specs.laws.Preserve.{depth-at-rest, loss-in-at-rest}
 use Rattle.record.specs.declared.Record.{Record}
 use Rattle.record.specs.Record.{gridOf, stateOf, outcomeOf}
 use Rattle.readings.specs.Readings.{amountOf, numberOf, setOf}
-use Rattle.validity.specs.Laws.{Valid, valid-record, valid-proper, depth-natural}
+use Rattle.validity.specs.Laws.{Valid, valid-record, valid-proper}
 use Rattle.scenario.specs.Scenario.{scenarioOf, startOf}
-use Rattle.start_laws.specs.Laws.{network-is, rest-depth, begun, begun-mark}
+use Rattle.start_laws.specs.Laws.{network-is, begun, begun-mark}
 use Rattle.ledger.specs.Calls.{Call, leftByAll, repliesTo}
 use Rattle.ledger.specs.Ledger.{gridFrom, networkFrom, ledgerOf, acceptedOf, pumpedBy, inSet, netInto, greatest}
 use Rattle.ledger.specs.Promise.{Holds}
@@ -59,7 +60,7 @@ module _ (text : List ℕ) (r : Record) (h : Runs (scenarioOf text) [] (atRest (
 
 at-start : (text : List ℕ) → startOf text .outcome ≡ outcomeOf 0 → Runs (scenarioOf text) [] (atRest (networkFrom text)) (startOf text .«record»)
 unfolding greatest
-at-start text taken = record { carries = begun text taken; steps = none; mark = begun-mark text taken ∙ sym (rest-depth (networkFrom text) 0) }
+at-start text taken = record { carries = begun text taken; steps = none; mark = begun-mark text taken ∙ sym (depth-at-rest (networkFrom text) 0) }
 
 returns : tie.Need-returns
 returns c text taken calls = holds text (startOf text .«record») (at-start text taken) calls

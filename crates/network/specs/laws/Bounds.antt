@@ -1,6 +1,6 @@
 -- One stable step from a kept state: how much water crosses a face, how much a place gives and gets, and how deep it can come to stand.
 -- Naturals stand for losses and drawdowns, and what leaves a place and what enters it are kept apart.
---     loss-is, depth-is      the loss and the drawdown of a place as naturals
+--     loss-is, depth-is      the loss and the drawdown of a place as naturals; depth-natural: no drawdown is below 0
 --     inflow-rises           the last column gives water and takes none; inflow-le: its total stays within the pumped total
 --     entering-le            what enters a place is at most its V
 --     face-le, face-fits     the water of a face is at most the V of its deeper end, and so at most the pumped total
@@ -54,6 +54,9 @@ module _ (N : Network) (proper : Proper N) (s : State) (kept : Kept N s) where
   unfolding drawdown depth
   depth-is p = rw (loss-is p)
 
+  pub depth-natural : (p : ℕ) → pos 0 ≤ℤ drawdown N (s .losses) p
+  depth-natural p = rw (depth-is p) (pos-≤ℤ zero-le)
+
   depth-outside : (p : ℕ) → N .places ≤ p → depth p ≡ 0
   unfolding depth
   depth-outside p h = rw (outside p h, zero-div)
@@ -62,7 +65,7 @@ module _ (N : Network) (proper : Proper N) (s : State) (kept : Kept N s) where
   in-layer : (p : ℕ) → OnTable N p → UpTo (1000 * N .thickness) (drawdown N (s .losses) p)
   unfolding tableTooDeep
   in-layer p o = (
-    rw (depth-is p) (pos-≤ℤ zero-le),
+    depth-natural p,
     ⊎-elim (λ m. not-past (none-at (λ q. ltZ (pos (1000 * N .thickness)) (drawdown N (s .losses) q)) (kept .table) m))
         (λ h. rw (depth-is p, depth-outside p h) (pos-≤ℤ zero-le))
         o,

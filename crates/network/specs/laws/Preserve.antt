@@ -70,7 +70,7 @@ loss-at-rest : (N : Network) (p : ℕ) → lossAt (atRest N .losses) p ≡ pos 0
 unfolding atRest lossAt
 loss-at-rest N p = getD-same (N .places) p (pos 0)
 
-depth-at-rest : (N : Network) (p : ℕ) → drawdown N (atRest N .losses) p ≡ pos 0
+pub depth-at-rest : (N : Network) (p : ℕ) → drawdown N (atRest N .losses) p ≡ pos 0
 unfolding drawdown
 depth-at-rest N p = rw (loss-at-rest N p, zero-div)
 

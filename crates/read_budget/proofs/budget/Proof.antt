@@ -4,10 +4,10 @@ use mathlib.Core.Bool.{true}
 use borrow.Author.Needs.{needs}
 use borrow.Author.Tests.{not-true, not-false}
 use Rattle.laws.specs.Signed.{back}
-use Rattle.validity.specs.Laws.{valid-record}
+use Rattle.validity.specs.Laws.{valid-record, mark-back}
 use Rattle.validity.specs.Validity.{valid}
 use Rattle.read_budget.specs.Counted.{everyCell}
-use Rattle.readings.specs.Laws.{well-back, inflow-back, mark-back}
+use Rattle.readings.specs.Laws.{well-back, inflow-back}
 use Rattle.read_budget.proofs.Loss.{loss-asks, loss-room, count-asks, budget-14, cells-listed, budget-given}
 use Rattle.read_budget.proofs.budget.Statement.{statement}
 use Rattle.read_budget.proofs.budget.Tie as tie

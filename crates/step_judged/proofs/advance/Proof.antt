@@ -15,9 +15,8 @@ use Rattle.laws.specs.Lists.{larger}
 use Rattle.laws.specs.Signed.{back}
 use Rattle.record.specs.Record.{outcomeOf}
 use Rattle.step_conditions.specs.Conditions.{totalsFull}
-use Rattle.step_drawdowns.specs.Drawdowns.{depthOf}
 use Rattle.step_sweep.specs.Worked.{Lent, lent, wellAfter, inflowAfter, workedOf, lossesOf}
-use Rattle.step_judged.specs.Course.{tooDeep, halts, Advancing}
+use Rattle.step_judged.specs.Course.{tooDeep, depthAfter, halts, Advancing}
 use Rattle.step_judged.proofs.Laws.{well-back, inflow-back, mark-back, well-after-back, inflow-after-back, depth-within, totals-fit, halted-is, halted-9, taken, judged, restored}
 use Rattle.step_judged.proofs.advance.Statement.{statement}
 use Rattle.step_judged.proofs.advance.Tie as tie
@@ -142,7 +141,7 @@ drawdown-by-requires c κs =
     let q = asked (start at) in
     rw (well-worked at) (q .wellLoss, depth-within q (untouched c), q .workable .wellStorage, start at .pre .1 .0 .1)
 
-depth-is : (c : tie.After-drawdown-by) → let s = start (from-judged (c .before .before)) in pos (c .drawdown-by .result) ≡ depthOf (wellAfter (held s)) (s .args .terms .«well_storage»)
+depth-is : (c : tie.After-drawdown-by) → let s = start (from-judged (c .before .before)) in pos (c .drawdown-by .result) ≡ depthAfter (held s)
 depth-is c = rw (well-worked (from-judged (c .before .before))) at (c .drawdown-by .ensures)
 
 raised-requires : tie.Need-raised-requires

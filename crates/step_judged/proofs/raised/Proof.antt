@@ -1,14 +1,11 @@
 -- `step_judged::raised` meets its contract: the test on the way is the definition's.
-use mathlib.Core.Path.{_≡_, _∙_}
-use mathlib.Core.Bool.{true, false}
-use Prim.Native.Nat.{ℕ}
+use mathlib.Core.Path.{_≡_, sym, _∙_}
 use native.Mathlib.Omega.{arith}
-use lib.IntN.{ℤ, pos}
-use lib.Signed.{leZ}
+use lib.IntN.{pos}
 use mir.Facts.{toZ-ofZ}
 use mir.Syntax.{w64}
 use mir.Val.{toZ}
-use Rattle.laws.specs.Lists.{larger}
+use Rattle.laws.specs.Integer.{larger-first, larger-second}
 use Rattle.laws.specs.Signed.{read}
 use Rattle.step_judged.proofs.raised.Statement.{statement}
 use Rattle.step_judged.proofs.raised.Tie as tie
@@ -19,20 +16,11 @@ reached s = read (omega (arith, s .pre))
 cast-reached : tie.Need-cast-reached
 cast-reached c = omega (arith, c .pre)
 
--- which of the two the test says
-deeper : (mark : ℤ) (depth : ℕ) → leZ mark (pos depth) ≡ true → pos depth ≡ larger mark (pos depth)
-unfolding larger
-deeper mark depth e = rw e
-
-higher : (mark : ℤ) (depth : ℕ) → leZ mark (pos depth) ≡ false → mark ≡ larger mark (pos depth)
-unfolding larger
-higher mark depth e = rw e
-
 returns : tie.Need-returns
-returns c = let s = c .before in reached s ∙ deeper (s .args .mark) (s .args .depth) (rw (reached s, toZ-ofZ (s .fits .mark)) at (c .if1 .taken))
+returns c = let s = c .before in reached s ∙ sym (larger-second (s .args .mark) (pos (s .args .depth)) (rw (reached s, toZ-ofZ (s .fits .mark)) at (c .if1 .taken)))
 
 returns-2 : tie.Need-returns-2
-returns-2 c = let s = c .before in toZ-ofZ (s .fits .mark) ∙ higher (s .args .mark) (s .args .depth) (rw (reached s, toZ-ofZ (s .fits .mark)) at (c .if1 .left))
+returns-2 c = let s = c .before in toZ-ofZ (s .fits .mark) ∙ sym (larger-first (s .args .mark) (pos (s .args .depth)) (rw (reached s, toZ-ofZ (s .fits .mark)) at (c .if1 .left)))
 
 pub raised-spec : {M : Type 1} → statement M
 raised-spec = tie.close (tie.spec cast-reached returns returns-2)

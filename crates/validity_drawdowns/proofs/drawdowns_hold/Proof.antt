@@ -43,8 +43,8 @@ returns : tie.Need-returns
 unfolding depthsHold
 returns c = rw (sym (negative-test (c .before .args .mark) (rw (toZ-ofZ (c .before .fits .mark)) at (c .if1 .taken))))
 
-cast-most : tie.Need-cast-most
-cast-most c =
+cast-deepest : tie.Need-cast-deepest
+cast-deepest c =
     let s = c .before in
     rw (toZ-ofZ (s .fits .mark)) (is-natural (s .args .mark) (natural-mark c), record { fits = omega (arith, size-small (s .args .mark) (natural-mark c) (s .fits .mark .sfits)) })
 
@@ -79,7 +79,7 @@ drawdowns-hold-spec =
     tie.close
     (tie.spec
     returns
-    cast-most
+    cast-deepest
     returns-2
     deeper-than-requires
     returns-3

@@ -17,6 +17,6 @@ fn call_lists_notice_every_mistake() {
     let scenarios = Scenarios::new(7);
     for mistake in mistake::ALL {
         let noticed = (0..80).filter(|&number| runs::check_calls(&scenarios, number, Some(mistake)).is_err()).count();
-        assert!(noticed >= 5, "{mistake:?} is noticed by {noticed} lists of 80");
+        assert!(noticed >= 10, "{mistake:?} is noticed by {noticed} lists of 80");
     }
 }
