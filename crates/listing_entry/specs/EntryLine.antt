@@ -17,7 +17,7 @@ use Rattle.listing_lines.specs.Lines.{lineFrom, figureOf}
 unfoldable pub refusedLine : ℕ → ℕ → List ℕ
 refusedLine n refusal = lineFrom (word "refused" ∷ digitsOf n ∷ digitsOf refusal ∷ [])
 
--- entry number, time in µs, well drawdown in µm; pumped, well loss, all cells' loss and inflow in nl
+-- entry number, time in µs, well drawdown in µm; pumped, well loss, all cells' loss and inflow in nl. The budget's mark is not printed (N1)
 unfoldable pub figuresLine : ℕ → ℕ → ℤ → Totals → List ℕ
 figuresLine n time well t =
     lineFrom (
