@@ -66,7 +66,11 @@ module _ (r : Record) (counts : countsHold (r .site) ≡ true) (numbers : number
   narrow : r .site .columns ≤ 50
   narrow = counts-hold (r .site) counts .columns-most
 
-  table-limit : 1000 * getD (r .site .thickness) 0 0 ≤ drawdownLimit
+  -- by which the slots of layer 1 are held too
+  abbrev table : ℕ
+  table = 1000 * getD (r .site .thickness) 0 0
+
+  table-limit : table ≤ drawdownLimit
   table-limit = omega (arith, numbers-hold (r .site) numbers .layer 0 layer-1 .thickness-most)
 
   first-slots : (j : ℕ) → suc j < r .site .columns → leb 50 (slot 0 (suc j)) ≡ false
@@ -83,10 +87,6 @@ module _ (r : Record) (counts : countsHold (r .site) ≡ true) (numbers : number
   -- the mark, where it is not below 0
   abbrev top : ℕ
   top = natAbs (r .mark)
-
-  -- the table, by which the slots of layer 1 are held too
-  abbrev table : ℕ
-  table = 1000 * getD (r .site .thickness) 0 0
 
   -- whether D of slot k is past a limit
   abbrev deeperAt : ℕ → ℕ → Bool
@@ -178,7 +178,7 @@ module _ (r : Record) (counts : countsHold (r .site) ≡ true) (numbers : number
       table = none _ (networkOf (gridOf r) .table) (λ p m.
           let cell = Memᴰ·of-map (place (gridOf r) 0) (storedColumns (gridOf r)) m in
           let column = range-mem 1 (r .site .columns - 1) (cell .1) in
-          subst (λ p. ltZ (pos (1000 * getD (r .site .thickness) 0 0)) (drawdown (networkOf (gridOf r)) (stateOf r .losses) p) ≡ false) (cell .2) (table-depth (cell .0) (omega arith) (omega (arith, one))));
+          subst (λ p. ltZ (pos table) (drawdown (networkOf (gridOf r)) (stateOf r .losses) p) ≡ false) (cell .2) (table-depth (cell .0) (omega arith) (omega (arith, one))));
       depths = λ p h. ≤ℤ-up _ (under-mark p h) (omega (arith, top-most, intake-limit));
     }
 
@@ -290,7 +290,7 @@ module _ (r : Record) where
     table-most = table-limit r (site-passed numbers .0) (site-passed numbers .1)
 
     pub intake-most : 1000 * r .site .intake ≤ drawdownLimit
-    intake-most = omega (arith, numbers-hold (r .site) (site-passed numbers .1) .well .intake-most)
+    intake-most = intake-limit r (site-passed numbers .0) (site-passed numbers .1)
 
     pub well-stores : storagePasses ≡ true → 0 < r .«well_storage»
     unfolding wellStorage
