@@ -1,5 +1,5 @@
 -- `step_run::course_of` meets its contract: the signed fields are read back as they are, and the well's D is that of its V.
-use mathlib.Core.Path.{_≡_, ap}
+use mathlib.Core.Path.{_≡_, refl, ap}
 use lib.IntN.{natAbs}
 use mir.Syntax.{w64}
 use mir.Val.{toZ, ofZ}
@@ -27,7 +27,7 @@ returns c =
     let at = c .before in
     let r = at .before .before .before .args .«record» in
     let depth : c .drawdown .result ≡ natAbs (depthOf (r .«well_loss») (r .«well_storage»)) = ap natAbs (rw (well-back (at .before .before)) at (c .drawdown .ensures)) in
-    rw (well-back (at .before .before), inflow-back (at .before), mark-back at, depth)
+    rw (well-back (at .before .before), inflow-back (at .before), mark-back at, depth) refl
 
 pub course-of-spec : {M : Type 1} → statement M
 course-of-spec = tie.close (tie.spec drawdown-requires returns)
