@@ -46,8 +46,12 @@ slot-passes true (negsuc n) f e = absurd (false≢true (f refl))
 slot-passes false (negsuc n) f e = absurd (false≢true e)
 
 -- ---- the tests and 14
-abbrev pub depthsPass : Record → Bool
-depthsPass r = depthsHold (r .site .layers) (r .site .columns) (1000 * getD (r .site .thickness) 0 0) (1000 * r .site .intake) (r .mark) (r .storages) (r .losses) (r .«well_storage») (r .«well_loss»)
+-- that of the drawdowns, by this mark and this V of the well
+abbrev pub depthsBy : Record → ℤ → ℤ → Bool
+depthsBy r mark well = depthsHold (r .site .layers) (r .site .columns) (1000 * getD (r .site .thickness) 0 0) (1000 * r .site .intake) mark (r .storages) (r .losses) (r .«well_storage») well
+
+abbrev depthsPass : Record → Bool
+depthsPass r = depthsBy r (r .mark) (r .«well_loss»)
 
 within : (n : ℕ) (z : ℤ) → z ≤ℤ pos n → ltZ (pos n) z ≡ false
 within n (pos m) h = le-ltb n m (≤ℤ-pos h)

@@ -10,7 +10,7 @@ use mir.Val.{toZ, ofZ}
 use Rattle.laws.specs.All.{and-left, and-right}
 use Rattle.record.specs.declared.Record.{Record}
 use Rattle.coefficient_cells.specs.Laws.{judged-site}
-use Rattle.validity.proofs.Checked.{numbersPass, arraysPass, storagePasses, tablePasses, lossesPass, totalsPass, depthsPass, checked, checked-valid, site-passed, some-layer, area-most, table-most, intake-most, well-stores, cells-store, well-natural}
+use Rattle.validity.proofs.Checked.{numbersPass, arraysPass, storagePasses, tablePasses, lossesPass, totalsPass, depthsBy, checked, checked-valid, site-passed, some-layer, area-most, table-most, intake-most, well-stores, cells-store, well-natural}
 use Rattle.validity.proofs.valid.Statement.{statement}
 use Rattle.validity.proofs.valid.Tie as tie
 
@@ -166,7 +166,7 @@ drawdowns-hold-requires c κs =
     let losses = and-left (lossesPass r) (totalsPass r) (totals-passed (totals c)) in
     let well = well-natural r (and-right (lossesPass r) (totalsPass r) (totals-passed (totals c))) in
     rw (well-back (numbers (coefficients at .before .before)))
-    (table-most r numbered, intake-most r numbered, cells-store r (arrays-passed (coefficients at)) losses, well-stores r numbered (storage-passed at), well)
+    (table-most r numbered, omega (arith, intake-most r numbered), cells-store r (arrays-passed (coefficients at)) losses, well-stores r numbered (storage-passed at), well)
 
 returns-6 : tie.Need-returns-6
 unfolding checked
@@ -175,8 +175,8 @@ returns-6 c =
     let at = storage passed in
     let r = given3 at in
     let signed = numbers (coefficients at .before .before) in
-    let tested : c .drawdowns-hold .result ≡ depthsPass r = rw (well-back signed, mark-back signed) at (c .drawdowns-hold .ensures) in
-    let e : c .drawdowns-hold .result ≡ checked r = rw (before-totals passed, totals-passed (totals (c .before))) tested in
+    let tested : c .drawdowns-hold .result ≡ depthsBy r (toZ w64 (ofZ w64 (r .mark))) (toZ w64 (ofZ w64 (r .«well_loss»))) = c .drawdowns-hold .ensures in
+    let e : c .drawdowns-hold .result ≡ checked r = rw (before-totals passed, totals-passed (totals (c .before))) (rw (well-back signed, mark-back signed) at tested) in
     e ∙ checked-valid r
 
 pub valid-spec : {M : Type 1} → statement M

@@ -1,9 +1,12 @@
 -- `validity_drawdowns::depth_slot_holds`: the tests on the way are the definition's.
 use mathlib.Core.Path.{_≡_, sym, ap, _∙_}
 use mathlib.Core.Bool.{true, false, not}
+use native.Mathlib.Omega.{arith}
 use borrow.Author.Needs.{needs}
 use borrow.Author.Tests.{not-true, not-false, le-leb, lt-leb}
 use mir.Facts.{toZ-ofZ}
+use mir.Syntax.{w64}
+use mir.Val.{toZ, ofZ}
 use Rattle.coefficient_slots.specs.Slots.{usedSlot}
 use Rattle.coefficient_slots.specs.Held.{inside}
 use Rattle.validity_drawdowns.specs.Drawdowns.{deeper, depthSlotHolds}
@@ -50,13 +53,15 @@ deeper-than-requires-2 : tie.Need-deeper-than-requires-2
 deeper-than-requires-2 c κs =
     let at = from-mark (c .before) in
     let s = start at in
-    (s .pre .0, s .pre .2 (used at) .0, rw (toZ-ofZ (s .fits .loss)) (s .pre .2 (used at) .1))
+    (omega (arith, s .pre), s .pre .2 (used at) .0, rw (toZ-ofZ (s .fits .loss)) (s .pre .2 (used at) .1))
 
 returns-4 : tie.Need-returns-4
 unfolding depthSlotHolds
 returns-4 c =
     let at = from-mark (c .before .before) in
-    rw (used at, marked (c .before .before), lt-leb _ _ (c .before .if3 .left)) (ap not (rw (toZ-ofZ (start at .fits .loss)) at (c .deeper-than2 .ensures)))
+    let a = start at .args in
+    let table : c .deeper-than2 .result ≡ deeper (a .table) (a .storage) (toZ w64 (ofZ w64 (a .loss))) = c .deeper-than2 .ensures in
+    rw (used at, marked (c .before .before), lt-leb _ _ (c .before .if3 .left)) (ap not (rw (toZ-ofZ (start at .fits .loss)) at table))
 
 pub depth-slot-holds-spec : {M : Type 1} → statement M
 depth-slot-holds-spec =

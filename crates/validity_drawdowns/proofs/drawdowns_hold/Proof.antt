@@ -1,9 +1,10 @@
 -- `validity_drawdowns::drawdowns_hold`: the mark, the well, then the cells.
-use mathlib.Core.Path.{_≡_, sym, subst, _∙_}
+use mathlib.Core.Path.{_≡_, sym, _∙_}
 use mathlib.Core.Bool.{true}
-use Prim.Native.Nat.{_≤_}
+use Prim.Native.Nat.{_≤_, _<_}
 use native.Mathlib.Omega.{arith}
 use borrow.Author.Tests.{le-leb, lt-leb}
+use denote.Ref.{now}
 use lib.IntN.{natAbs}
 use lib.Signed.{nonNeg}
 use mir.Facts.{toZ-ofZ}
@@ -11,7 +12,7 @@ use mir.Syntax.{w64}
 use mir.Val.{toZ, ofZ}
 use Rattle.laws.specs.Signed.{negative-test, natural-test, is-natural, size-small}
 use Rattle.limits.specs.Limits.{drawdownLimit}
-use Rattle.validity_drawdowns.specs.Drawdowns.{deeper, depthsHold}
+use Rattle.validity_drawdowns.specs.Drawdowns.{deeper, depthSlotsHold, depthsHold}
 use Rattle.validity_drawdowns.proofs.drawdowns_hold.Statement.{statement}
 use Rattle.validity_drawdowns.proofs.drawdowns_hold.Tie as tie
 
@@ -27,7 +28,7 @@ abbrev start : tie.Else2 → tie.Start
 start c = from-sign c .before
 
 mark-most : (c : tie.Else2) → natAbs (start c .args .mark) ≤ start c .args .intake
-mark-most c = rw (toZ-ofZ (start c .fits .mark)) at (c .if2 .left)
+mark-most c = omega (arith, rw (toZ-ofZ (start c .fits .mark)) at (c .if2 .left))
 
 mark-limit : (c : tie.Else2) → natAbs (start c .args .mark) ≤ drawdownLimit
 mark-limit c = omega (arith, mark-most c, start c .pre .1)
@@ -50,7 +51,10 @@ cast-deepest c =
 
 returns-2 : tie.Need-returns-2
 unfolding depthsHold
-returns-2 c = rw (natural-mark (c .before), lt-leb _ _ (rw (toZ-ofZ (c .before .before .fits .mark)) at (c .if2 .taken)))
+returns-2 c =
+    let s = c .before .before in
+    let past : s .args .intake < natAbs (s .args .mark) = rw (toZ-ofZ (s .fits .mark)) at (c .if2 .taken) in
+    rw (natural-mark (c .before), lt-leb _ _ past)
 
 deeper-than-requires : tie.Need-deeper-than-requires
 deeper-than-requires c κs = let s = start c in rw (toZ-ofZ (s .fits .mark), toZ-ofZ (s .fits .well-loss)) (mark-limit c, s .pre .3, s .pre .4)
@@ -65,14 +69,16 @@ depth-slots-hold-requires : tie.Need-depth-slots-hold-requires
 depth-slots-hold-requires c κs =
     let at = c .before .before in
     let s = start at in
-    (s .pre .0, subst (λ m. natAbs m ≤ drawdownLimit) (sym (toZ-ofZ (s .fits .mark))) (mark-limit at), s .pre .2)
+    let most : natAbs (toZ w64 (ofZ w64 (s .args .mark))) ≤ drawdownLimit = rw (toZ-ofZ (s .fits .mark)) (mark-limit at) in
+    (s .pre .0, omega (arith, most, s .pre .1), s .pre .2)
 
 returns-4 : tie.Need-returns-4
 unfolding depthsHold
 returns-4 c =
     let at = c .before .before .before in
-    rw (natural-mark (from-sign at), le-leb _ _ (mark-most at), sym (tested (c .before .before)) ∙ c .before .if3 .left)
-    (rw (toZ-ofZ (start at .fits .mark)) at (c .depth-slots-hold .ensures))
+    let a = start at .args in
+    let slots : c .depth-slots-hold .result ≡ depthSlotsHold (a .layers) (a .columns) (a .table) (natAbs (toZ w64 (ofZ w64 (a .mark)))) (now (a .storages)) (now (a .losses)) = c .depth-slots-hold .ensures in
+    rw (natural-mark (from-sign at), le-leb _ _ (mark-most at), sym (tested (c .before .before)) ∙ c .before .if3 .left) (rw (toZ-ofZ (start at .fits .mark)) at slots)
 
 pub drawdowns-hold-spec : {M : Type 1} → statement M
 drawdowns-hold-spec =
