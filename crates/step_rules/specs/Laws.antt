@@ -2,6 +2,7 @@
 --     step-outcome     what became of a step, by its number; step-kept: a refused one gives the record handed in
 --     same-grid        a record with another state has the same grid, and so the same network (same-network)
 --     same-state       and that state, where the state has one loss for each place
+--     taken            a step that 14 and 7 to 11 let pass is one that the network's conditions do; state-is: the state that it gives
 --     step-valid       so 14 does not refuse the record that a step taken gives
 use mathlib.Core.Path.{_≡_, refl, sym, ap, ap₂, subst, _∙_}
 use mathlib.Core.Bool.{Bool, true, false, cond, not, _||_}
@@ -97,14 +98,14 @@ module _ (r : Record) (rate dt : ℕ) (ok : valid r ≡ true) (e : stepRefusal r
   v : Valid r
   v = valid-record r ok
 
-  taken : refusal N (stateOf r) rate dt ≡ 0
+  pub taken : refusal N (stateOf r) rate dt ≡ 0
   unfolding stepRefusal refusal
   taken = passed (not (valid r)) 13 (stepTests N (stateOf r) rate dt) e .1
 
   kept : Kept N next
   kept = kept-moved N (valid-proper r v) (stateOf r) (v .kept) rate dt taken
 
-  state-is : stateOf (withState r next) ≡ next
+  pub state-is : stateOf (withState r next) ≡ next
   unfolding networkOf
   state-is = same-state r next (counts-hold (r .site) (v .counts)) (kept .listed)
 

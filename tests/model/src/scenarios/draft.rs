@@ -27,6 +27,7 @@ pub const RADIUS: usize = 0;
 pub const WATER_AREA: usize = 1;
 pub const INTAKE: usize = 2;
 pub const FRICTION: usize = 3;
+pub const LENGTH: usize = 1;
 pub const REPEATS: usize = 2;
 
 impl Draft {

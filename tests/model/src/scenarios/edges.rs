@@ -1,10 +1,12 @@
 //! The catalogue of edges: every limit of document 01, as document 02 changes it, that a text can reach,
-//! at its last accepted and first refused value; grids in which many drawdowns are equal; water tables drawn down far; and wells that
-//! rise under their deepest mark.
+//! at its last accepted and first refused value; grids in which many drawdowns are equal; water tables drawn down far; wells that rise
+//! under their deepest mark; and long rests.
 
 use super::damage::line_replaced;
 use super::draft::{text_of, Draft};
-use super::draft::{FRICTION, HORIZONTAL, INTAKE, RADIUS, REPEATS, SCREENED, STORAGE, THICKNESS, VERTICAL, WATER_AREA};
+use super::draft::{
+    FRICTION, HORIZONTAL, INTAKE, LENGTH, RADIUS, REPEATS, SCREENED, STORAGE, THICKNESS, VERTICAL, WATER_AREA,
+};
 use super::Case;
 use crate::geometry;
 use crate::limits;
@@ -30,6 +32,7 @@ pub fn catalogue() -> Vec<Case> {
     edges.below_layer_1();
     edges.water_tables();
     edges.marks();
+    edges.rests();
     edges.0
 }
 
@@ -474,6 +477,26 @@ impl Edges {
             self.edit(name, &draft, 0, |_| ());
         }
     }
+
+    /// Pumping and a long rest (document 02, N14): until hardly anything is drawn down; with steps among those of the rest that 7 and 8 refuse;
+    /// a well that goes down at rest, a cell being deeper; and levels that come to stand still before they are back.
+    fn rests(&mut self) {
+        let long = two_screens(8000, &[(1000, 60), (0, 20), (0, 200), (0, 2000)]);
+        self.edit("rest-long", &long, 0, |_| ());
+        self.edit("rest-refusals", &long, 0, |draft| {
+            let longest = draft.pumping[0][LENGTH];
+            let rests =
+                [(longest, 20), (longest + 1, 9), (longest, 20), (0, 9), (1_000_000_001, 9), (longest / 2, 200)];
+            draft.pumping.truncate(1);
+            draft.pumping.extend(rests.map(|(length, repeats)| [0, length, repeats]));
+        });
+        self.edit("rest-well-goes-down", &swinging(), 0, |draft| {
+            draft.pumping[2][REPEATS] = 1;
+            draft.pumping.extend([draft.pumping[2]; 5]);
+            draft.pumping.push([0, draft.pumping[2][LENGTH], 2000]);
+        });
+        self.edit("rest-stands-still", &slow(), 0, |_| ());
+    }
 }
 
 /// A draft with steps of a rate at the longest length that 8 allows, and one µs above it, and a rest.
@@ -574,6 +597,16 @@ fn two_screens(intake: u64, entries: &[(u64, u64)]) -> Draft {
 fn swinging() -> Draft {
     let layers = vec![[9000, 0, 1000, 10, 200_000], [3000, 0, 1000, 10, 50_000], [10_000, 1, 100_000, 10, 1_000_000]];
     pumped(layers, vec![150, 2000, 9000], [100, 393, 8999, 20_000], &[(1000, 1), (500, 3), (0, 4)])
+}
+
+/// A well and cells of so little storage, and so slow a layer, that a step of the greatest length moves some nl, and none where neighbours
+/// differ by few enough µm.
+fn slow() -> Draft {
+    let layers = vec![[10, 0, 0, 0, 1], [1, 1, 1, 0, 100_000]];
+    let mut draft =
+        pumped(layers, vec![1000, 2000, 3000, 4000], [500, 1, 9, 20_000], &[(0, 100), (0, 2000), (0, 2000)]);
+    draft.pumping.insert(0, [1, 8000, 1]);
+    draft
 }
 
 /// Columns each nine times as wide as the one before it, pumped and at rest in turn for 2,000 steps.

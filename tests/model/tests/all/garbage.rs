@@ -4,6 +4,7 @@
 use crate::bore_k;
 use crate::calls::check_state;
 use crate::records::sample;
+use crate::runs::longest_step;
 use reference_model::geometry;
 use reference_model::grid::{cell, slot, Place};
 use reference_model::head_loss::head_loss;
@@ -13,12 +14,12 @@ use reference_model::readings;
 use reference_model::record::{start, Record};
 use reference_model::refusal::Refusal;
 use reference_model::scenarios::Scenarios;
-use reference_model::step::{judge_stability, step};
+use reference_model::step::step;
 use std::collections::BTreeMap;
 use std::slice::from_mut;
 
 /// The ledger that has an allowed record's coefficients and losses, its well having been as deep as the record's mark.
-fn ledger_of(record: &Record) -> Ledger {
+pub fn ledger_of(record: &Record) -> Ledger {
     let stored = |loss: i64, storage: u64| Stored { loss: loss.into(), storage: storage.into() };
     let mut places = BTreeMap::from([(Place::Well, stored(record.well_loss, record.well_s))]);
     let mut faces = Vec::new();
@@ -158,7 +159,7 @@ fn spoilt_records() {
 
 /// Any coefficients and losses within their limits, and a mark that goes with these: as deep as the deepest place, as 1000×p, or between. The
 /// C below layer 1 goes with the scenario's numbers, and any Kv_1 above 0 with that C.
-fn fill_at_random(random: &mut Random, record: &mut Record) {
+pub fn fill_at_random(random: &mut Random, record: &mut Record) {
     let most_c = random.spread(1, 1_000_000_000_000_000);
     let most_s = random.spread(1, 1_000_000_000_000_000_000);
     let (intake, bottom) = (1000 * record.intake_depth, 1000 * record.thickness[0]);
@@ -206,14 +207,7 @@ fn steps_on_any_allowed_record() {
             continue;
         }
         fill_at_random(&mut random, &mut record);
-        let (mut allowed, mut too_long) = (0, 1_000_000_001);
-        while too_long - allowed > 1 {
-            let middle = (allowed + too_long) / 2;
-            match judge_stability(&record, middle, None) {
-                Ok(()) => allowed = middle,
-                Err(_) => too_long = middle,
-            }
-        }
+        let allowed = longest_step(&ledger_of(&record));
         let rate = random.spread(0, 10_000_000);
         taken += u32::from(assert_step(&record, rate, allowed));
         taken += u32::from(assert_step(&record, 0, allowed));

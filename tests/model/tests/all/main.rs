@@ -11,6 +11,7 @@ mod marks;
 mod mistakes;
 mod records;
 mod report_rule;
+mod rests;
 mod runs;
 mod stored;
 mod texts;

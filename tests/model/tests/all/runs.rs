@@ -20,7 +20,7 @@ fn accepted_texts(seed: u64) -> Vec<Vec<u8>> {
 }
 
 /// The longest step that 8 allows by the ledger, µs.
-fn longest_step(ledger: &Ledger) -> u64 {
+pub fn longest_step(ledger: &Ledger) -> u64 {
     let (mut allowed, mut refused) = (0, 1_000_000_001);
     while refused - allowed > 1 {
         let middle = (allowed + refused) / 2;
