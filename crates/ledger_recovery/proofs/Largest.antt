@@ -36,11 +36,6 @@ other-below x [] m = absurd (List·Memᴰ·not-nil m)
 other-below x {y} (z ∷ l) m =
     ⊎-elim (λ e. rw e (larger-bounds z (largestOf x l) .0)) (λ k. ≤ℤ-trans _ _ _ (other-below x l k) (larger-bounds z (largestOf x l) .1)) (List·Memᴰ·cases-cons m)
 
-least : (x : ℤ) (l : List ℤ) (M : ℤ) → x ≤ℤ M → ((y : ℤ) → List·Memᴰ y l → y ≤ℤ M) → largestOf x l ≤ℤ M
-unfolding largestOf
-least x [] M h k = h
-least x (y ∷ l) M h k = larger-bounds y (largestOf x l) .2 M (k y (List·Memᴰ·head refl)) (least x l M h (λ z m. k z (List·Memᴰ·tail m)))
-
 -- what holds of x and of each number in a list holds of the largest
 one-of : (P : ℤ → Type 0) (x : ℤ) (l : List ℤ) → P x → ((y : ℤ) → List·Memᴰ y l → P y) → P (largestOf x l)
 unfolding largestOf
@@ -83,7 +78,7 @@ module _ (G : Grid) (vs : List ℤ) where
 
   pub largest-least : (M : ℤ) → ((p : ℕ) → p < placeCount G → D p ≤ℤ M) → largestIn G vs ≤ℤ M
   unfolding largestIn placeCount
-  largest-least M h = least (D 0) (cellDepths G vs) M (h 0 (omega arith)) (in-cell (λ y. y ≤ℤ M) (λ i r a b. h (place G i (suc r)) (place-below G i r a b)))
+  largest-least M h = one-of (λ y. y ≤ℤ M) (D 0) (cellDepths G vs) (h 0 (omega arith)) (in-cell (λ y. y ≤ℤ M) (λ i r a b. h (place G i (suc r)) (place-below G i r a b)))
 
   -- a named place with this D
   abbrev Named : ℤ → Type 0
