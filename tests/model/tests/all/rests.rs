@@ -5,6 +5,7 @@ use crate::bore_k::equal;
 use crate::deep_cells::edge;
 use crate::garbage::{fill_at_random, ledger_of};
 use crate::runs::longest_step;
+use crate::stored::repository;
 use crate::water_tables::run as entries;
 use reference_model::grid::{cell, Place};
 use reference_model::limits;
@@ -19,7 +20,6 @@ use reference_model::text::read;
 use std::collections::BTreeMap;
 use std::fs;
 use std::iter::{once, repeat_n};
-use std::path::PathBuf;
 
 /// What is read of a record: the drawdown of the well and of each cell inside the last column, µm, and the budget.
 #[derive(Clone, Debug)]
@@ -294,7 +294,7 @@ fn other_edges_at_rest() {
 /// The listing and the table of the example for support staff, as examples/README.md has them.
 #[test]
 fn the_example_is_as_its_readme_says() {
-    let examples = PathBuf::from(env!("CARGO_MANIFEST_DIR")).join("../../examples");
+    let examples = repository().join("examples");
     let text = fs::read(examples.join("recovery.txt")).unwrap();
     let readme = fs::read_to_string(examples.join("README.md")).unwrap();
     let mut record = start(&text).1;
