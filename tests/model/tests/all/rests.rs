@@ -117,10 +117,18 @@ fn run(record: &mut Record, rate: u64, lengths: impl IntoIterator<Item = u64>, s
     Ok(())
 }
 
-/// A record that 14 lets pass, from an accepted text with not too many places, and the longest step that 8 allows it, if it allows any: with
-/// any coefficients, losses and inflow within their limits, the well full in half of them, or as a run of random steps leaves it; now and
-/// then near the end of time.
-fn any_record(random: &mut Random, text: &[u8]) -> Option<(Record, u64)> {
+/// A record that 14 lets pass.
+struct Begun {
+    record: Record,
+    /// Whether its coefficients, losses and inflow are made by hand; else a run of random steps has left it.
+    by_hand: bool,
+    /// The longest step that 8 allows, µs.
+    longest: u64,
+}
+
+/// Such a record from an accepted text with not too many places, if 8 allows it any step. More are drawn by hand than are left by a run, but 8
+/// allows many of those no step. Of the ones made by hand every other has a full well; one of eight is near the end of time.
+fn any_record(random: &mut Random, text: &[u8]) -> Option<Begun> {
     let (outcome, mut record) = start(text);
     if outcome.is_err() || record.layers * record.columns > 100 {
         return None;
@@ -151,7 +159,7 @@ fn any_record(random: &mut Random, text: &[u8]) -> Option<(Record, u64)> {
         record.time = limits::TOTAL - random.between(0, 20 * longest);
     }
     assert_eq!(record.fault(), None);
-    Some((record, longest))
+    Some(Begun { record, by_hand, longest })
 }
 
 /// Lengths of steps, most of them as long as 8 allows; some shorter, and some that 7 or 8 refuses.
@@ -173,11 +181,15 @@ fn rests_from_any_allowed_record() {
     let mut random = Random::new(31);
     let scenarios = Scenarios::new(32);
     let mut seen = Seen::default();
+    let (mut by_hand, mut by_runs, mut drawn_down) = (0, 0, 0);
     for number in 0..1500 {
-        let Some((mut record, longest)) = any_record(&mut random, &scenarios.case(number).text) else { continue };
-        let lengths = lengths(&mut random, longest);
-        assert_eq!(run(&mut record, 0, lengths, &mut seen), Ok(()), "record {number}");
+        let Some(mut begun) = any_record(&mut random, &scenarios.case(number).text) else { continue };
+        *(if begun.by_hand { &mut by_hand } else { &mut by_runs }) += 1;
+        drawn_down += u32::from(Levels::of(&begun.record).largest() > 0);
+        let lengths = lengths(&mut random, begun.longest);
+        assert_eq!(run(&mut begun.record, 0, lengths, &mut seen), Ok(()), "record {number}");
     }
+    assert!(by_hand >= 200 && by_runs >= 150 && drawn_down >= 300, "{by_hand} {by_runs} {drawn_down}");
     let numbers: Vec<u64> = seen.outcomes.keys().copied().collect();
     assert_eq!(numbers, [0, 7, 8, 9, 11], "{seen:?}");
     assert!(seen.outcomes.values().all(|&count| count >= 50), "{seen:?}");
