@@ -538,3 +538,74 @@ fn marks_of_losses(before: Record, case: u64) -> Record {
         _ => before,
     }
 }
+
+fn with_screen_loss(before: Site, count: u64, first: u64) -> Site {
+    let mut site = before;
+    site.loss_count = count;
+    site.loss_coefficients[0] = first;
+    site
+}
+
+// For same (document 02, N10), by one number or by two that keep the sum: bore K as its first entry leaves it; 1 nl from one place to another, or
+// between a place and the last column; more of both totals; the time; the mark; a well that has recovered, and one that was never so deep. Then
+// C and S, and numbers of the scenario. All are allowed of bore K, and but for the recovered well no drawdown is another.
+pub fn waters(before: Record, case: u64) -> Record {
+    match case {
+        1 => with_state(before, 990468379, 0, 9531621, 0, 1000000000, 1000000, 33015),
+        2 => with_state(before, 990468378, 1, 9531621, 0, 1000000000, 1000000, 33015),
+        3 => with_state(before, 990468380, 0, 9531620, 0, 1000000000, 1000000, 33015),
+        4 => with_state(before, 990468379, 0, 9531620, 1, 1000000000, 1000000, 33015),
+        5 => with_state(before, 990468378, 0, 9531621, 1, 1000000000, 1000000, 33015),
+        6 => with_state(before, 990468379, 0, 9531621, 1, 1000000001, 1000000, 33015),
+        7 => with_state(before, 990468379, 0, 9531621, 0, 1000000000, 1000001, 33015),
+        8 => with_state(before, 990468379, 0, 9531621, 0, 1000000000, 999999, 33015),
+        9 => with_state(before, 990468379, 0, 9531621, 0, 1000000000, 1000000, 33016),
+        10 => with_state(before, 0, 0, 0, 1000000000, 1000000000, 1000000, 33015),
+        11 => with_state(before, 0, 0, 0, 1000000000, 1000000000, 1000000, 0),
+        12..=16 => other_coefficient(before, case),
+        _ => other_number(before, case),
+    }
+}
+
+// One C or S of bore K, by one.
+fn other_coefficient(before: Record, case: u64) -> Record {
+    let mut rec = before;
+    match case {
+        12 => rec.screen[1] = 1143840362,
+        13 => rec.horizontal[0] = 5719201804,
+        14 => rec.horizontal[50] = 1143840362,
+        15 => rec.storages[0] = 150796400001,
+        16 => rec.storages[50] = 1507964001,
+        _ => {}
+    }
+    rec
+}
+
+// One number of bore K's scenario, by one, of those that the C between layers 1 and 2 has no part in: friction; a coefficient 0 more, that
+// coefficient, and one 0 more; intake, b_1, Kh_2, Kv_1, yield and storage, and the last radius.
+fn other_site(before: Site, case: u64) -> Site {
+    let mut site = before;
+    match case {
+        17 => site.friction = 50001,
+        18 => site = with_screen_loss(before, 1, 0),
+        19 => site = with_screen_loss(before, 1, 1),
+        20 => site = with_screen_loss(before, 2, 1),
+        21 => site.intake = 9998,
+        22 => site.thickness[0] = 10001,
+        23 => site.kh[1] = 100001,
+        24 => site.kv[0] = 10001,
+        25 => site.storage[0] = 200001,
+        26 => site.storage[1] = 999999,
+        27 => site.radii[1] = 1301,
+        _ => {}
+    }
+    site
+}
+
+fn other_number(before: Record, case: u64) -> Record {
+    let site = before.site;
+    let other = other_site(site, case);
+    let mut rec = before;
+    rec.site = other;
+    rec
+}

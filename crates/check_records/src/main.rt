@@ -1,6 +1,7 @@
 // Changes one number, or the few that go with it, in the record that each scenario text gives, and prints what a step of it comes to: every
-// condition of 14 broken just barely beside its nearest allowed neighbour, and 9 by the pumped total and by the time. The reference model
-// prints the same (tests/stored). The changes are chosen for bore K, and tried on every text.
+// condition of 14 broken just barely beside its nearest allowed neighbour, and 9 by the pumped total and by the time. Then what same answers of
+// it and the unchanged record, and of it and the one before it in its group (document 02, N10). The reference model prints the same
+// (tests/stored). The changes are chosen for bore K, and tried on every text.
 use check_print::print;
 use check_print::print_line_end;
 use check_print::print_number;
@@ -12,6 +13,7 @@ use scenario::Pumping;
 use site::Site;
 
 mod changes;
+mod drawdowns;
 
 // The step that is tried: ml/s and µs.
 const RATE: u64 = 1000;
@@ -75,17 +77,37 @@ fn changed(before: Record, group: u64, case: u64) -> Record {
         11 => changes::depths(rec, case),
         12 => changes::below(rec, case),
         13 => changes::tables(rec, case),
-        _ => changes::marks(rec, case),
+        14 => changes::marks(rec, case),
+        _ => changes::waters(rec, case),
     }
 }
 
+// What same answers of the record with a change and of two others, both ways; in the last group also whether their drawdowns are equal.
+fn print_same(unchanged: Record, last: Record, rec: Record, group: u64) {
+    print(b"same");
+    check_report::print_both_ways(unchanged, rec);
+    check_report::print_both_ways(last, rec);
+    print_line_end();
+    if group != 15 {
+        return;
+    }
+    print(b"drawdowns");
+    drawdowns::print_equal(unchanged, rec);
+    drawdowns::print_equal(last, rec);
+    print_line_end();
+}
+
 fn print_group(before: Record, name: &[u8], group: u64, cases: u64) {
+    let mut last = before;
     let mut case: u64 = 0;
     while case < cases {
         case += 1;
         print(name);
         print_number(case);
-        print_step(changed(before, group, case));
+        let rec = changed(before, group, case);
+        print_step(rec);
+        print_same(before, last, rec, group);
+        last = rec;
     }
 }
 
@@ -106,6 +128,7 @@ fn print_groups(before: Record) {
     print_group(before, b"alone", 5, 14);
     print_group(before, b"tables", 13, 14);
     print_group(before, b"marks", 14, 32);
+    print_group(before, b"waters", 15, 27);
 }
 
 // The record after the steps of the first entry, as many of them as are taken.

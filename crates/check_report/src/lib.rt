@@ -344,10 +344,15 @@ fn print_sameness(sameness: Sameness) {
     }
 }
 
+// What same answers of two records, and the other way round.
+pub fn print_both_ways(one: Record, other: Record) {
+    print_sameness(read_same::same(one, other));
+    print_sameness(read_same::same(other, one));
+}
+
 fn print_same(rec: Record, other: Record) {
     print(b"same");
-    print_sameness(read_same::same(rec, other));
-    print_sameness(read_same::same(other, rec));
+    print_both_ways(rec, other);
     print_line_end();
 }
 

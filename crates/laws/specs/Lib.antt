@@ -6,6 +6,7 @@ pub mod Integer
 pub mod Lists
 pub mod Number
 pub mod Padded
+pub mod Pairwise
 pub mod Pointwise
 pub mod Ranges
 pub mod Refusal

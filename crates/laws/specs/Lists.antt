@@ -57,6 +57,13 @@ unfoldable pub some : {A : Type 0} → List A → (A → Bool) → Bool
 some [] t = false
 some (a ∷ l) t = t a || some l t
 
+-- of two lists: they have one length, and the test holds of their elements pair by pair
+unfoldable pub pairwise : {A : Type 0} → (A → A → Bool) → List A → List A → Bool
+pairwise t [] [] = true
+pairwise t [] (b ∷ m) = false
+pairwise t (a ∷ l) [] = false
+pairwise t (a ∷ l) (b ∷ m) = t a b && pairwise t l m
+
 -- the number of the first test of a table that holds, 0 if none does
 unfoldable pub first : List (Bool × ℕ) → ℕ
 first [] = 0

@@ -31,13 +31,12 @@ use Rattle.validity.specs.Validity.{valid}
 use Rattle.coefficients.specs.Coefficients.{scenarioGrid}
 use Rattle.readings.specs.declared.Place.{Place}
 use Rattle.readings.specs.declared.Place.the-variants.{Well, Cell}
-use Rattle.readings.specs.Readings.{amountOf, balanceOf, samenessOf, isLayer, isStored, isNamed, numberOf, totalsIn, drawdownOf, budgetOf, setOf, lossOf, leads, faceFrom, waterFrom, flowOf, deepCountIn, deepCount, deepRefusal, codesAt, deepCodesIn, deepCodes, listedOf, deepOf, sameDepths, sameOf}
+use Rattle.readings.specs.Readings.{amountOf, balanceOf, samenessOf, isLayer, isStored, isNamed, numberOf, totalsIn, drawdownOf, budgetOf, setOf, lossOf, leads, faceFrom, waterFrom, flowOf, deepCountIn, deepCount, deepRefusal, codesAt, deepCodesIn, deepCodes, listedOf, deepOf, sameRecord, sameOf}
 use Rattle.hydraulics.specs.Hydraulics.{inflowOf}
 use Rattle.pipe.specs.Laws.{pipe-loss-same}
 use Rattle.read_head_loss.specs.HeadLoss.{waterInto, lossesAt, lossAnswerOf, isScreenedLayer, headLossRefusal, headLossOf}
 use Rattle.start_laws.specs.Laws.{Carries, network-is, screen-is, across-is, down-is}
 use Rattle.ledger.specs.Ledger.{inSet}
-use Rattle.ledger.specs.Told.{alike}
 
 -- an answer by the number of a refusal, where the value counts only if the number is 0
 given-same : {A B : Type 0} (f : ℕ → A → B) → ((k : ℕ) (x y : A) → f (suc k) x ≡ f (suc k) y) → (n : ℕ) {x y : A} → (n ≡ 0 → x ≡ y) → f n x ≡ f n y
@@ -79,7 +78,7 @@ module _ {scenario : Site} {s : State} {r : Record} (h : Carries scenario s r) w
   same-place i zero = refl
   same-place i (suc j) = rw (same-count, same-columns)
 
-  same-places : place (gridOf r) ≡ place G
+  pub same-places : place (gridOf r) ≡ place G
   same-places = fun-ext (λ i. fun-ext (same-place i))
 
   same-number : (p : Place) → numberOf (gridOf r) p ≡ numberOf G p
@@ -221,13 +220,13 @@ module _ {scenario : Site} {s : State} {r : Record} (h : Carries scenario s r) w
 
   -- ---- compared
 
-  pub told-same : (q : Record) → sameOf r q ≡ samenessOf (first ((not (valid q), 14) ∷ [])) (alike G (s .losses) (gridOf q) (stateOf q .losses))
-  unfolding sameOf sameDepths first
-  told-same q = rw (h .valid, network-is h, h .state, same-count, same-layers, same-columns)
+  pub told-same : {t : Record} → r ≡ t → (q : Record) → sameOf r q ≡ samenessOf (first ((not (valid q), 14) ∷ [])) (sameRecord t q)
+  unfolding sameOf first
+  told-same e q = rw (h .valid) (ap (λ t. samenessOf (first ((not (valid q), 14) ∷ [])) (sameRecord t q)) e)
 
-  pub told-same-as : (q : Record) → sameOf q r ≡ samenessOf (first ((not (valid q), 14) ∷ [])) (alike (gridOf q) (stateOf q .losses) G (s .losses))
-  unfolding sameOf sameDepths first
-  told-same-as q = rw (h .valid, network-is h, h .state, same-layers, same-columns)
+  pub told-same-as : {t : Record} → r ≡ t → (q : Record) → sameOf q r ≡ samenessOf (first ((not (valid q), 14) ∷ [])) (sameRecord q t)
+  unfolding sameOf first
+  told-same-as e q = rw (h .valid) (ap (λ t. samenessOf (first ((not (valid q), 14) ∷ [])) (sameRecord q t)) e)
 
   -- ---- head loss
 

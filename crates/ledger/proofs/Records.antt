@@ -1,27 +1,35 @@
 -- The record of a run and the ledger, call by call: laws only, nothing to believe.
---     Runs              a record carries the ledger's state after some accepted steps, and its mark is the largest D that the well has had in them
+--     Runs              a record carries the ledger's state after some accepted steps, and holds that, the scenario and the largest D that the well has had in
+--                       them, and nothing else; start-whole: so does the record at the start; mark-is: its mark
 --     runs-left         so does the record that a call leaves; runs-all: that a list of calls leaves
 --     same-outcomes     the outcomes among their replies are the ledger's
 use mathlib.Core.Path.{_≡_, refl, sym, ap, ap₂, subst, _∙_}
 use mathlib.Core.Bool.{Bool, true, false, cond}
 use mathlib.Core.List.{List, [], _∷_, _++_, append-nil, append-assoc}
-use Prim.Native.Nat.{ℕ}
+use Prim.Native.Nat.{ℕ, _+_, _/_, _%_}
 use lib.Dec.{eqb}
+use lib.IntN.{ℤ, pos}
 use borrow.Author.Tests.{eqb-true}
 use Rattle.laws.specs.Lists.{larger}
-use Rattle.network.specs.Network.{Network, State, atRest, moved, refusal}
+use Rattle.laws.specs.Ranges.{map-range-same}
+use Rattle.limits.specs.Limits.{columnPlaces, cellPlaces}
+use Rattle.network.specs.Network.{Network, State, atRest, lossAt, moved, refusal}
 use Rattle.network.specs.Network as network
-use Rattle.network.specs.Grid.{networkOf}
+use Rattle.network.specs.Grid.{place, networkOf}
+use Rattle.network.specs.laws.Preserve.{loss-at-rest, depth-at-rest}
 use Rattle.site.specs.declared.Site.{Site}
 use Rattle.record.specs.declared.Record.{Record}
-use Rattle.coefficients.specs.Coefficients.{scenarioGrid}
-use Rattle.start_laws.specs.Laws.{Carries}
-use Rattle.start_laws.specs.Steps.{outcome-is, carries-on, mark-on}
+use Rattle.record.specs.Record.{slots, isCell}
+use Rattle.coefficients.specs.Coefficients.{scenarioGrid, startRecord}
+use Rattle.step_rules.specs.Step.{withState}
+use Rattle.start_laws.specs.Laws.{Carries, network-is}
+use Rattle.start_laws.specs.Steps.{outcome-is, carries-on, record-on}
 use Rattle.ledger.specs.Calls.{Reading, drawdown, budget, loss, flow, deep, same, sameAs, headLoss, Call, step, read, Reply, replyTo, left, leftByAll, repliesTo}
 use Rattle.ledger.specs.Ledger.{afterCall, afterCalls, outcomesFrom, Accepted, acceptedFrom, greatest}
-use Rattle.ledger.specs.Told.{stepsAfter}
+use Rattle.ledger.specs.Told.{recordWith, stepsAfter}
 use Rattle.ledger.proofs.AcceptedSteps.{Steps, one-more, greatest-more}
 use Rattle.ledger.specs.Promise.{outcomesIn}
+use Rattle.ledger.proofs.Readings.{same-places}
 
 carries-left : {scenario : Site} {s : State} {r : Record} → Carries scenario s r → (c : Call)
     → Carries scenario (afterCall (networkOf (scenarioGrid scenario)) s c) (left r c)
@@ -33,11 +41,36 @@ carries-left h (step rate dt) = carries-on h rate dt
 pub record Runs (scenario : Site) (ts : List Accepted) (s : State) (r : Record) : Type 0 where
   pub carries : Carries scenario s r
   pub steps : Steps (networkOf (scenarioGrid scenario)) (atRest (networkOf (scenarioGrid scenario))) ts s
-  pub mark : r .mark ≡ greatest (networkOf (scenarioGrid scenario)) ts
+  pub whole : r ≡ recordWith scenario s (greatest (networkOf (scenarioGrid scenario)) ts)
+
+pub mark-is : {scenario : Site} {ts : List Accepted} {s : State} {r : Record} → Runs scenario ts s r → r .mark ≡ greatest (networkOf (scenarioGrid scenario)) ts
+unfolding recordWith
+mark-is h = ap (λ q. q .mark) (h .whole)
 
 module _ (scenario : Site) where
   abbrev N : Network
   N = networkOf (scenarioGrid scenario)
+
+  -- V of a layer and column at rest
+  abbrev lost : ℕ → ℕ → ℤ
+  lost i j = cond (isCell scenario i j) (lossAt (atRest N .losses) (place (scenarioGrid scenario) i j)) (pos 0)
+
+  none-lost : (i j : ℕ) → lost i j ≡ pos 0
+  none-lost i j = by-test (isCell scenario i j) (place (scenarioGrid scenario) i j)
+    where
+      by-test : (t : Bool) (p : ℕ) → cond t (lossAt (atRest N .losses) p) (pos 0) ≡ pos 0
+      by-test true p = loss-at-rest N p
+      by-test false p = refl
+
+  pub start-whole : startRecord scenario ≡ recordWith scenario (atRest N) (greatest N [])
+  unfolding startRecord recordWith slots greatest atRest
+  start-whole = rw (loss-at-rest N 0, depth-at-rest N 0, map-range-same (pos 0) (λ k. lost (k / columnPlaces) (k % columnPlaces + 1)) 0 cellPlaces (λ k. none-lost (k / columnPlaces) (k % columnPlaces + 1)))
+
+  -- a record of a run with another state
+  moved-whole : {ts : List Accepted} {s : State} {r : Record} → Runs scenario ts s r → (s′ : State)
+      → withState r s′ ≡ recordWith scenario s′ (larger (greatest N ts) (network.drawdown N (s′ .losses) 0))
+  unfolding withState recordWith
+  moved-whole h s′ = rw (network-is (h .carries), same-places (h .carries), h .whole)
 
   runs-step : {ts : List Accepted} {s : State} {r : Record} → Runs scenario ts s r → (rate dt : ℕ)
       → Runs scenario (stepsAfter scenario ts s (step rate dt)) (afterCall N s (step rate dt)) (left r (step rate dt))
@@ -45,7 +78,7 @@ module _ (scenario : Site) where
   runs-step {ts} {s} {r} h rate dt = record {
     carries = carries-left (h .carries) (step rate dt);
     steps = stepped (eqb (refusal N s rate dt) 0) (eqb-true (refusal N s rate dt) 0);
-    mark = mark-on (h .carries) rate dt ∙ marked (eqb (refusal N s rate dt) 0);
+    whole = record-on (h .carries) rate dt ∙ whole (eqb (refusal N s rate dt) 0);
   }
     where
       more : List Accepted
@@ -55,10 +88,9 @@ module _ (scenario : Site) where
       stepped true e = one-more N rate dt (h .steps) (e refl)
       stepped false e = rw (append-nil ts) (h .steps)
 
-      marked : (t : Bool)
-          → cond t (larger (r .mark) (network.drawdown N (moved N s rate dt .losses) 0)) (r .mark) ≡ greatest N (ts ++ cond t more [])
-      marked true = rw (h .mark) (greatest-more N rate dt s ts)
-      marked false = rw (append-nil ts) (h .mark)
+      whole : (t : Bool) → cond t (withState r (moved N s rate dt)) r ≡ recordWith scenario (cond t (moved N s rate dt) s) (greatest N (ts ++ cond t more []))
+      whole true = moved-whole h (moved N s rate dt) ∙ ap (recordWith scenario (moved N s rate dt)) (greatest-more N rate dt s ts)
+      whole false = rw (append-nil ts) (h .whole)
 
   pub runs-left : {ts : List Accepted} {s : State} {r : Record} → Runs scenario ts s r → (c : Call)
       → Runs scenario (stepsAfter scenario ts s c) (afterCall N s c) (left r c)

@@ -12,18 +12,18 @@ use Rattle.ledger.specs.Calls.{drawdown, budget, loss, flow, deep, same,
 use Rattle.ledger.specs.Ledger.{Accepted}
 use Rattle.ledger.specs.Told.{Tells, Told, nothing, further}
 use Rattle.ledger.proofs.Readings.{told-depth, told-budget, told-loss, told-flow, told-deep, told-same, told-same-as, told-head-loss}
-use Rattle.ledger.proofs.Records.{Runs, runs-left}
+use Rattle.ledger.proofs.Records.{Runs, mark-is, runs-left}
 
 tells : {scenario : Site} {steps : List Accepted} {s : State} {r : Record} → Runs scenario steps s r → (c : Call) → Tells scenario steps s c (replyTo r c)
 unfolding replyTo Tells left
-tells {r = r} h (step rate dt) = let after = runs-left _ h (step rate dt) in (stepOf r rate dt, refl, outcome-is (h .carries) rate dt, after .carries .state, after .mark)
+tells {r = r} h (step rate dt) = let after = runs-left _ h (step rate dt) in (stepOf r rate dt, refl, outcome-is (h .carries) rate dt, after .carries .state, mark-is after)
 tells h (read (drawdown p)) = ap amount (told-depth (h .carries) p)
-tells h (read budget) = ap balance (told-budget (h .carries) (h .mark))
+tells h (read budget) = ap balance (told-budget (h .carries) (mark-is h))
 tells h (read (loss bytes)) = ap amount (told-loss (h .carries) bytes)
 tells h (read (flow a b dt)) = ap amount (told-flow (h .carries) a b dt)
 tells h (read (deep D old)) = ap listed (told-deep (h .carries) D old)
-tells h (read (same q)) = ap compared (told-same (h .carries) q)
-tells h (read (sameAs q)) = ap compared (told-same-as (h .carries) q)
+tells h (read (same q)) = ap compared (told-same (h .carries) (h .whole) q)
+tells h (read (sameAs q)) = ap compared (told-same-as (h .carries) (h .whole) q)
 tells h (read (headLoss layer dt)) = ap losses (told-head-loss (h .carries) layer dt)
 
 pub told-all : {scenario : Site} {steps : List Accepted} {s : State} {r : Record} (cs : List Call) → Runs scenario steps s r → Told scenario steps s cs (repliesTo r cs)

@@ -1,2 +1,3 @@
 pub mod Laws
 pub mod Readings
+pub mod SameLaws

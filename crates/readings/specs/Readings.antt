@@ -8,9 +8,10 @@ use lib.Dec.{eqb, leb, ltb}
 use lib.Signed.{ltZ}
 use lib.ListN.{length, getD, drop}
 use Rattle.limits.specs.Limits.{drawdownLimit}
-use Rattle.laws.specs.Lists.{falling, allBelow, first, ifℕ, sumℕ}
+use Rattle.laws.specs.Lists.{falling, pairwise, first, ifℕ, sumℕ}
 use Rattle.network.specs.Network.{Face, Network, State, lossAt, drawdown, flow, lossIn, lengthOut, unstable}
 use Rattle.network.specs.Grid.{Grid, storedColumns, layersOf, placeCount, place, acrossFace, downFace, networkOf}
+use Rattle.site.specs.declared.Site.{Site}
 use Rattle.record.specs.declared.Record.{Record}
 use Rattle.record.specs.Record.{gridOf, stateOf}
 use Rattle.validity.specs.Validity.{equalℤ, valid}
@@ -174,16 +175,47 @@ listedOf (suc n) count codes old = record { answer = countOf (suc n) count; list
 unfoldable pub deepOf : Record → ℕ → List ℕ → Listed
 deepOf r D old = listedOf (deepRefusal r D (length old)) (deepCount r D) (deepCodes r D) old
 
--- ---- whether two records are the same: equal layer and column counts, equal D everywhere
+-- ---- whether two records are the same (document 02, N10): all that they hold agrees, number by number in the order of the structs, lists slot by slot
 
--- equal D at each place of a grid with the losses vs and of another with the losses ws
-abbrev pub sameDepthsIn : Grid → List ℤ → Grid → List ℤ → Bool
-sameDepthsIn G vs H ws = allBelow (placeCount G) λ p. equalℤ (drawdown (networkOf G) vs p) (drawdown (networkOf H) ws p)
+-- the scenario's numbers
+unfoldable pub sameSite : Site → Site → Bool
+sameSite s t =
+    eqb (s .layers) (t .layers)
+    && pairwise eqb (s .thickness) (t .thickness)
+    && pairwise eqb (s .screened) (t .screened)
+    && pairwise eqb (s .kh) (t .kh)
+    && pairwise eqb (s .kv) (t .kv)
+    && pairwise eqb (s .storage) (t .storage)
+    && eqb (s .columns) (t .columns)
+    && pairwise eqb (s .radii) (t .radii)
+    && eqb (s .«well_radius») (t .«well_radius»)
+    && eqb (s .«water_area») (t .«water_area»)
+    && eqb (s .intake) (t .intake)
+    && eqb (s .friction) (t .friction)
+    && eqb (s .«loss_count») (t .«loss_count»)
+    && pairwise eqb (s .«loss_coefficients») (t .«loss_coefficients»)
 
-unfoldable pub sameDepths : Record → Record → Bool
-sameDepths r q = sameDepthsIn (gridOf r) (stateOf r .losses) (gridOf q) (stateOf q .losses)
+-- C of each face, and S of each cell
+unfoldable pub sameCoefficients : Record → Record → Bool
+sameCoefficients r q =
+    pairwise eqb (r .screen) (q .screen)
+    && pairwise eqb (r .horizontal) (q .horizontal)
+    && pairwise eqb (r .vertical) (q .vertical)
+    && pairwise eqb (r .storages) (q .storages)
+
+-- V of each cell, S and V of the well, the totals, the time and the mark
+unfoldable pub sameWater : Record → Record → Bool
+sameWater r q =
+    pairwise equalℤ (r .losses) (q .losses)
+    && eqb (r .«well_storage») (q .«well_storage»)
+    && equalℤ (r .«well_loss») (q .«well_loss»)
+    && eqb (r .pumped) (q .pumped)
+    && equalℤ (r .inflow) (q .inflow)
+    && eqb (r .time) (q .time)
+    && equalℤ (r .mark) (q .mark)
+
+unfoldable pub sameRecord : Record → Record → Bool
+sameRecord r q = sameSite (r .site) (q .site) && sameCoefficients r q && sameWater r q
 
 unfoldable pub sameOf : Record → Record → Sameness
-sameOf r q =
-    samenessOf (first ((not (valid r), 14) ∷ (not (valid q), 14) ∷ []))
-    (eqb (gridOf r .layers) (gridOf q .layers) && eqb (gridOf r .columns) (gridOf q .columns) && sameDepths r q)
+sameOf r q = samenessOf (first ((not (valid r), 14) ∷ (not (valid q), 14) ∷ [])) (sameRecord r q)

@@ -2,7 +2,7 @@
 --     Carries scenario s r   14 does not refuse r, and r holds the scenario's numbers, C and S, and the state s
 --     counted, network-is    so the scenario's counts are within their limits, and the network of r is the scenario's
 --     screen-is, ..          and so is C of each face: of the well and a screened layer, of two columns (across-is), of two layers (down-is)
---     begun                  the record that start gives for an accepted text carries the scenario at rest; begun-mark: its mark is 0
+--     begun                  the record that start gives for an accepted text carries the scenario at rest; begun-record: that record whole
 use mathlib.Core.Path.{_≡_, refl, sym, ap, _∙_}
 use mathlib.Core.Bool.{Bool, true, cond, not, _&&_, or-true}
 use mathlib.Core.List.{List}
@@ -188,6 +188,6 @@ module _ (text : List ℕ) (e : startOf text .outcome ≡ outcomeOf 0) where
         state = start-state (scenarioOf text) (p .counts);
       })
 
-  pub begun-mark : startOf text .«record» .mark ≡ pos 0
-  unfolding startOf answerOf startRecord
-  begun-mark = rw text-taken
+  pub begun-record : startOf text .«record» ≡ startRecord (scenarioOf text)
+  unfolding startOf answerOf
+  begun-record = rw text-taken

@@ -2,7 +2,7 @@
 --     refusal-is     it is refused as the scenario's network in that state refuses it
 --     outcome-is     so its outcome has that number
 --     stateAfter     the state after it, where a refused step changes nothing
---     carries-on     the record that it gives carries the scenario in that state; mark-on: the mark that it has
+--     carries-on     the record that it gives carries the scenario in that state; record-on: that record whole
 use mathlib.Core.Path.{_≡_, refl, sym, ap, ap₂, subst, _∙_}
 use mathlib.Core.Bool.{cond}
 use Prim.Native.Nat.{ℕ, zero, suc}
@@ -10,9 +10,9 @@ use native.Mathlib.Omega.{arith}
 use lib.Dec.{eqb}
 use lib.ListN.{length, length-map}
 use borrow.Author.Tests.{eq-eqb, ne-eqb}
-use Rattle.laws.specs.Lists.{larger, first, range}
+use Rattle.laws.specs.Lists.{first, range}
 use Rattle.laws.specs.Sums.{length-range}
-use Rattle.network.specs.Network.{Network, State, drawdown, lossAfter, lossesAfter, moved, refusal}
+use Rattle.network.specs.Network.{Network, State, lossAfter, lossesAfter, moved, refusal}
 use Rattle.network.specs.Grid.{placeCount, networkOf}
 use Rattle.site.specs.declared.Site.{Site}
 use Rattle.site.specs.Laws.{counts-hold}
@@ -65,14 +65,14 @@ module _ {scenario : Site} {s : State} {r : Record} (h : Carries scenario s r) (
       by-number zero e = rw (eq-eqb (refusal N s rate dt) 0 e) (carries-moved e)
       by-number (suc n) e = rw (ne-eqb (refusal N s rate dt) 0 (λ z. omega arith)) h
 
-  -- and its mark is the larger of the one before and the well's D, where the step is taken
-  pub mark-on : stepOf r rate dt .«record» .mark ≡ cond (eqb (refusal N s rate dt) 0) (larger (r .mark) (drawdown N (moved N s rate dt .losses) 0)) (r .mark)
-  unfolding stepOf answerOf withState
-  mark-on = subst Raised (sym refusal-is) (by-number (refusal N s rate dt) refl)
+  -- and it is the one before with that state, where the step is taken
+  pub record-on : stepOf r rate dt .«record» ≡ cond (eqb (refusal N s rate dt) 0) (withState r (moved N s rate dt)) r
+  unfolding stepOf answerOf
+  record-on = subst Given (sym refusal-is) (by-number (refusal N s rate dt) refl)
     where
-      Raised : ℕ → Type 0
-      Raised n = answerOf n r (withState r next) .«record» .mark ≡ cond (eqb (refusal N s rate dt) 0) (larger (r .mark) (drawdown N (moved N s rate dt .losses) 0)) (r .mark)
+      Given : ℕ → Type 0
+      Given n = answerOf n r (withState r next) .«record» ≡ cond (eqb (refusal N s rate dt) 0) (withState r (moved N s rate dt)) r
 
-      by-number : (n : ℕ) → refusal N s rate dt ≡ n → Raised n
+      by-number : (n : ℕ) → refusal N s rate dt ≡ n → Given n
       by-number zero e = rw (eq-eqb (refusal N s rate dt) 0 e, network-is h, h .state)
       by-number (suc n) e = rw (ne-eqb (refusal N s rate dt) 0 (λ z. omega arith))

@@ -7,6 +7,7 @@
 --     mark-natural, mark-most    its mark is not below 0, and at most 10^9; mark-back: so the machine reads it back as it is
 --     valid-limits, table-fits   its numbers are in their limits, and C between layers 1 and 2 at s = 0 fits a word
 --     zero-refused               14 refuses the all-zero record
+--     equal, itself              the test of two integers holds of equal ones alone, and of each and itself
 use mathlib.Core.Path.{_≡_, refl, ap}
 use mathlib.Core.Bool.{Bool, true, false, not, _&&_, false≢true}
 use mathlib.Core.List.{List}
@@ -64,10 +65,10 @@ pub not-below-0 : (v : ℤ) → pos 0 ≤ℤ v → nonNeg v ≡ true
 not-below-0 (pos n) h = refl
 not-below-0 (negsuc n) h = absurd (h .le)
 
-equal : (a b : ℤ) → equalℤ a b ≡ true → a ≡ b
+pub equal : (a b : ℤ) → equalℤ a b ≡ true → a ≡ b
 equal a b e = ≤ℤ-antisym a b (leZ-yes (so (and-left (leZ a b) (leZ b a) e))) (leZ-yes (so (and-right (leZ a b) (leZ b a) e)))
 
-itself : (a : ℤ) → equalℤ a a ≡ true
+pub itself : (a : ℤ) → equalℤ a a ≡ true
 itself (pos n) = rw (le-leb n n (le-refl n))
 itself (negsuc n) = rw (le-leb n n (le-refl n))
 

@@ -4,12 +4,15 @@
 //! 2×A_1×Kv_2/b_2, rounded down; that of R_0 to 5001 has the largest grid's.
 //! Changed losses have a mark with them (document 02, N1) that is no less than the drawdowns that bore K then has, so that a change is
 //! refused for what it is there for; one that is less is in the group `marks`, and where no word holds the drawdown.
+//! Each changed record is compared with the unchanged one and with the one before it in its group (document 02, N10).
 
 use crate::checksum::record_checksum;
-use crate::grid::slot;
+use crate::grid::{cell, slot, Place};
 use crate::listing;
+use crate::readings;
 use crate::record::{self, Record};
 use crate::refusal::Refusal;
+use crate::report;
 use crate::step;
 use crate::text;
 use std::io::{self, Write};
@@ -32,13 +35,30 @@ pub fn write(text: &[u8], out: &mut impl Write) -> io::Result<()> {
     }
     write_step("unchanged", record.clone(), out)?;
     for (name, changes) in GROUPS {
+        let mut last = record.clone();
         for (above, change) in changes.iter().enumerate() {
             let mut changed = record.clone();
             change(&mut changed);
-            write_step(&format!("{name} {}", above + 1), changed, out)?;
+            write_step(&format!("{name} {}", above + 1), changed.clone(), out)?;
+            writeln!(out, "same {} {}", report::both_ways(&record, &changed), report::both_ways(&last, &changed))?;
+            if name == "waters" {
+                let equal = |other| report::value(same_drawdowns(other, &changed).map(u8::from));
+                writeln!(out, "drawdowns {} {}", equal(&record), equal(&last))?;
+            }
+            last = changed;
         }
     }
     Ok(())
+}
+
+/// Whether two records have equal layer and column counts and equal drawdowns at the well and in column 1 of layers 1 and 2. Bore K has no other
+/// places: of it that is what document 01 called the same.
+fn same_drawdowns(one: &Record, other: &Record) -> Result<bool, Refusal> {
+    one.judge()?;
+    other.judge()?;
+    let counts = |record: &Record| (record.layers, record.columns);
+    let equal = |place| readings::drawdown(one, place) == readings::drawdown(other, place);
+    Ok(counts(one) == counts(other) && [Place::Well, cell(1, 1), cell(2, 1)].into_iter().all(equal))
 }
 
 /// `NAME taken CHECKSUM`, or `NAME refused NUMBER` with the record's checksum unless the number is 14.
@@ -50,7 +70,7 @@ fn write_step(name: &str, mut record: Record, out: &mut impl Write) -> io::Resul
     }
 }
 
-const GROUPS: [(&str, &[Change]); 14] = [
+const GROUPS: [(&str, &[Change]); 15] = [
     ("counts", &COUNTS),
     ("layers", &LAYER_NUMBERS),
     ("numbers", &NUMBERS),
@@ -65,6 +85,7 @@ const GROUPS: [(&str, &[Change]); 14] = [
     ("alone", &ALONE),
     ("tables", &TABLES),
     ("marks", &MARKS),
+    ("waters", &WATERS),
 ];
 
 const COUNTS: [Change; 16] = [
@@ -474,4 +495,49 @@ const MARKS: [Change; 32] = [
     |record| set_loss(record, slot(1, 49), 421_452_524_710, 0, 421_452_524_710, 0),
     |record| set_loss(record, slot(20, 49), 210_726_263, 0, 210_726_263, 1),
     |record| set_loss(record, slot(20, 49), 210_726_263, 0, 210_726_263, 0),
+];
+
+/// V of bore K's places, inflow and pumped total, time and mark.
+fn set_state(record: &mut Record, losses: [i64; 3], inflow: i64, pumped: u64, time: u64, mark: i64) {
+    set_losses(record, losses[0], losses[1], losses[2], inflow, pumped, mark);
+    record.time = time;
+}
+
+/// So many screen loss coefficients, and the first of them.
+fn set_coefficients(record: &mut Record, count: u64, first: u64) {
+    (record.screen_loss_count, record.screen_losses[0]) = (count, first);
+}
+
+/// For same (document 02, N10), by one number or by two that keep the sum: bore K as its first entry leaves it; 1 nl from one place to another,
+/// or between a place and the last column; more of both totals; the time; the mark; a well that has recovered, and one that was never so deep.
+/// Then C and S; friction, coefficients, intake, and the other scenario numbers that the C between layers 1 and 2 has no part in. All are
+/// allowed of bore K, and but for the recovered well no drawdown is another.
+const WATERS: [Change; 27] = [
+    |record| set_state(record, [990_468_379, 0, 9_531_621], 0, 1_000_000_000, 1_000_000, 33_015),
+    |record| set_state(record, [990_468_378, 1, 9_531_621], 0, 1_000_000_000, 1_000_000, 33_015),
+    |record| set_state(record, [990_468_380, 0, 9_531_620], 0, 1_000_000_000, 1_000_000, 33_015),
+    |record| set_state(record, [990_468_379, 0, 9_531_620], 1, 1_000_000_000, 1_000_000, 33_015),
+    |record| set_state(record, [990_468_378, 0, 9_531_621], 1, 1_000_000_000, 1_000_000, 33_015),
+    |record| set_state(record, [990_468_379, 0, 9_531_621], 1, 1_000_000_001, 1_000_000, 33_015),
+    |record| set_state(record, [990_468_379, 0, 9_531_621], 0, 1_000_000_000, 1_000_001, 33_015),
+    |record| set_state(record, [990_468_379, 0, 9_531_621], 0, 1_000_000_000, 999_999, 33_015),
+    |record| set_state(record, [990_468_379, 0, 9_531_621], 0, 1_000_000_000, 1_000_000, 33_016),
+    |record| set_state(record, [0, 0, 0], 1_000_000_000, 1_000_000_000, 1_000_000, 33_015),
+    |record| set_state(record, [0, 0, 0], 1_000_000_000, 1_000_000_000, 1_000_000, 0),
+    |record| record.well_c[1] = 1_143_840_362,
+    |record| record.across_c[slot(1, 1)] = 5_719_201_804,
+    |record| record.across_c[slot(2, 1)] = 1_143_840_362,
+    |record| record.cell_s[slot(1, 1)] = 150_796_400_001,
+    |record| record.cell_s[slot(2, 1)] = 1_507_964_001,
+    |record| record.friction = 50_001,
+    |record| set_coefficients(record, 1, 0),
+    |record| set_coefficients(record, 1, 1),
+    |record| set_coefficients(record, 2, 1),
+    |record| record.intake_depth = 9998,
+    |record| record.thickness[0] = 10_001,
+    |record| record.horizontal[1] = 100_001,
+    |record| record.vertical[0] = 10_001,
+    |record| record.storage[0] = 200_001,
+    |record| record.storage[1] = 999_999,
+    |record| record.radii[1] = 1301,
 ];

@@ -85,16 +85,11 @@ pub fn deep_cells(record: &Record, threshold: u64, list: &mut [u64]) -> Result<u
     Ok(cells.len())
 }
 
-/// Whether two records have equal layer and column counts and equal drawdowns everywhere.
+/// Whether two records are the same: all that they hold agrees (document 02, N10).
 pub fn same(one: &Record, other: &Record) -> Result<bool, Refusal> {
     one.judge()?;
     other.judge()?;
-    Ok(one.layers == other.layers
-        && one.columns == other.columns
-        && one.well_drawdown() == other.well_drawdown()
-        && one
-            .stored_cells()
-            .all(|(layer, column)| one.cell_drawdown(layer, column) == other.cell_drawdown(layer, column)))
+    Ok(one == other)
 }
 
 /// A face of a record, by what its C in use is worked from.

@@ -18,11 +18,17 @@ fn row<T: Display>(numbers: impl IntoIterator<Item = T>) -> String {
 }
 
 /// A value, or `refused` and the number.
-fn value<T: Display>(answer: Result<T, Refusal>) -> String {
+pub fn value<T: Display>(answer: Result<T, Refusal>) -> String {
     match answer {
         Ok(value) => value.to_string(),
         Err(refusal) => format!("refused {refusal}"),
     }
+}
+
+/// Whether two records are the same, 1 or 0, and the other way round.
+pub fn both_ways(one: &Record, other: &Record) -> String {
+    let answers = [readings::same(one, other), readings::same(other, one)];
+    answers.map(|answer| value(answer.map(u8::from))).join(" ")
 }
 
 /// The outcome of start in one line: `scenario NUMBER`, or `accepted LAYERS COLUMNS CHECKSUM`.
@@ -172,8 +178,7 @@ fn write_state(record: &Record, before: &Record, start: &Record, length: u64, ou
     write_sets(record, out)?;
     write_deep_cells(record, out)?;
     for other in [record, before, start] {
-        let (one_way, other_way) = (readings::same(record, other), readings::same(other, record));
-        writeln!(out, "same {} {}", value(one_way.map(u8::from)), value(other_way.map(u8::from)))?;
+        writeln!(out, "same {}", both_ways(record, other))?;
     }
     write_flows(record, length, out)?;
     for length in [0, 1, length, 1_000_000_000, 1_000_000_001] {

@@ -6,10 +6,10 @@ use Rattle.check_records.proofs.print_group.Statement.{statement}
 use Rattle.check_records.proofs.print_group.Tie as tie
 
 abbrev Inv-loop : tie.InvT-loop
-Inv-loop before name group cases case₀ case = case ≤ cases
+Inv-loop before name group cases last₀ case₀ last case = case ≤ cases
 
 abbrev μ-loop : tie.MeasureT-loop
-μ-loop before name group cases case₀ case = cases - case
+μ-loop before name group cases last₀ case₀ last case = cases - case
 
 loop-holds : tie.Need-loop-holds Inv-loop μ-loop
 loop-holds c = omega arith
@@ -28,6 +28,9 @@ changed-requires c κs = search needs
 
 print-step-requires : tie.Need-print-step-requires Inv-loop μ-loop
 print-step-requires c κs = search needs
+
+print-same-requires : tie.Need-print-same-requires Inv-loop μ-loop
+print-same-requires c κs = search needs
 
 loop-less : tie.Need-loop-less Inv-loop μ-loop
 loop-less c = omega arith
@@ -50,6 +53,7 @@ print-group-spec =
     print-number-requires
     changed-requires
     print-step-requires
+    print-same-requires
     loop-less
     loop-again
     returns)

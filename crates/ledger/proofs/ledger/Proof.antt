@@ -7,19 +7,19 @@ use Rattle.laws.specs.Lists.{ifℤ}
 use Rattle.network.specs.Network.{atRest, lossIn}
 use Rattle.network.specs.Grid.{networkOf}
 use Rattle.network.specs.laws.Bounds.{depth-natural}
-use Rattle.network.specs.laws.Preserve.{depth-at-rest, loss-in-at-rest}
+use Rattle.network.specs.laws.Preserve.{loss-in-at-rest}
 use Rattle.record.specs.declared.Record.{Record}
 use Rattle.record.specs.Record.{gridOf, stateOf, outcomeOf}
 use Rattle.readings.specs.Readings.{amountOf, numberOf, setOf}
 use Rattle.validity.specs.Laws.{Valid, valid-record, valid-proper}
 use Rattle.scenario.specs.Scenario.{scenarioOf, startOf}
-use Rattle.start_laws.specs.Laws.{network-is, begun, begun-mark}
+use Rattle.start_laws.specs.Laws.{network-is, begun, begun-record}
 use Rattle.ledger.specs.Calls.{Call, leftByAll, repliesTo}
-use Rattle.ledger.specs.Ledger.{gridFrom, networkFrom, ledgerOf, acceptedOf, pumpedBy, inSet, netInto, greatest}
+use Rattle.ledger.specs.Ledger.{gridFrom, networkFrom, ledgerOf, acceptedOf, pumpedBy, inSet, netInto}
 use Rattle.ledger.specs.Promise.{Holds}
 use Rattle.ledger.proofs.AcceptedSteps.{none, gained, conserved-over}
 use Rattle.ledger.proofs.Readings.{same-budget, same-loss, same-depth, named-place, set-inside, set-loss}
-use Rattle.ledger.proofs.Records.{Runs, runs-all, same-outcomes}
+use Rattle.ledger.proofs.Records.{Runs, mark-is, start-whole, runs-all, same-outcomes}
 use Rattle.ledger.proofs.Told.{told-all}
 use Rattle.ledger.proofs.ledger.Statement.{statement}
 use Rattle.ledger.proofs.ledger.Tie as tie
@@ -50,8 +50,8 @@ module _ (text : List ℕ) (r : Record) (h : Runs (scenarioOf text) [] (atRest (
     outcomes = same-outcomes calls (h .carries);
     state = end .carries .state;
     accepted = end .carries .valid;
-    mark = end .mark;
-    budget = same-budget (end .carries) (end .mark);
+    mark = mark-is end;
+    budget = same-budget (end .carries) (mark-is end);
     loss = λ bytes e. same-loss (end .carries) bytes e ∙ ap (amountOf 0) (set-balance bytes);
     depth = same-depth (end .carries);
     natural = λ p e. rw (same-network, end .carries .state) at (depth-natural _ (valid-proper _ known) (stateOf (leftByAll r calls)) (known .kept) (numberOf (gridFrom text) p));
@@ -59,8 +59,7 @@ module _ (text : List ℕ) (r : Record) (h : Runs (scenarioOf text) [] (atRest (
   }
 
 at-start : (text : List ℕ) → startOf text .outcome ≡ outcomeOf 0 → Runs (scenarioOf text) [] (atRest (networkFrom text)) (startOf text .«record»)
-unfolding greatest
-at-start text taken = record { carries = begun text taken; steps = none; mark = begun-mark text taken ∙ sym (depth-at-rest (networkFrom text) 0) }
+at-start text taken = record { carries = begun text taken; steps = none; whole = begun-record text taken ∙ start-whole (scenarioOf text) }
 
 returns : tie.Need-returns
 returns c text taken calls = holds text (startOf text .«record») (at-start text taken) calls

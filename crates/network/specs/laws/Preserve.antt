@@ -66,7 +66,7 @@ kept-moved N proper s kept rate dt e = record {
 
 -- ---- at rest
 
-loss-at-rest : (N : Network) (p : ℕ) → lossAt (atRest N .losses) p ≡ pos 0
+pub loss-at-rest : (N : Network) (p : ℕ) → lossAt (atRest N .losses) p ≡ pos 0
 unfolding atRest lossAt
 loss-at-rest N p = getD-same (N .places) p (pos 0)
 

@@ -1,9 +1,9 @@
 //! Random lists of calls, and what the ledger says that each must answer.
 
 use crate::head_losses;
-use reference_model::grid::{cell, Place};
+use reference_model::grid::{cell, slot, Place};
 use reference_model::head_loss::{head_loss, HeadLoss};
-use reference_model::ledger::Ledger;
+use reference_model::ledger::{Face, Ledger};
 use reference_model::limits;
 use reference_model::mistake::Mistake;
 use reference_model::random::Random;
@@ -139,11 +139,13 @@ impl Drawer<'_> {
         (0..length).map(|_| self.random.word()).collect()
     }
 
-    /// Any other record: the list's own, the start's, one that differs in a drop of water or in its mark, or none.
-    fn other(&mut self, record: &Record, start: &Record) -> Record {
+    /// Any other record: the list's own, the start's, one that differs from it in a nl at two places, in one number or in its mark, or none.
+    pub fn other(&mut self, record: &Record, start: &Record) -> Record {
         let mut other = if self.random.once_in(2) { record.clone() } else { start.clone() };
         let intake = 1000 * other.intake_depth as i64;
-        match self.random.between(0, 5) {
+        let cells: Vec<_> = other.stored_cells().map(|(layer, column)| slot(layer, column)).collect();
+        let at = self.random.one_of(&cells);
+        match self.random.between(0, 14) {
             0 => {
                 other.inflow += 1;
                 other.pumped += 1;
@@ -151,6 +153,13 @@ impl Drawer<'_> {
             1 => other.time = self.random.word(),
             2 => other = Record::zero(),
             3 => other.mark = self.random.one_of(&[other.mark - 1, intake, intake + 1, -1, i64::MIN, i64::MAX]),
+            4 => (other.well_loss, other.cell_loss[at]) = (other.well_loss - 1, other.cell_loss[at] + 1),
+            5 => (other.inflow, other.cell_loss[at]) = (other.inflow + 1, other.cell_loss[at] - 1),
+            6 => other.time += 1,
+            7 => other.across_c[at] += 1,
+            8 => other.cell_s[at] += 1,
+            9 => other.friction ^= 1,
+            10 => other.screen_loss_count += 1,
             _ => (),
         }
         other
@@ -255,16 +264,41 @@ fn deep_codes(ledger: &Ledger, threshold: u64) -> Vec<u64> {
     deeper.into_values().rev().flatten().collect()
 }
 
-fn same(ledger: &Ledger, site: &Site, other: &Record) -> Result<bool, Refusal> {
+/// Whether another record holds what the ledger has and no other number (document 02, N10): the scenario's numbers, C of each face, S and V of
+/// each place, totals and time, and as its mark the greatest D that the ledger's well has had.
+pub fn same(ledger: &Ledger, site: &Site, other: &Record) -> Result<bool, Refusal> {
     if other.fault().is_some() {
         return Err(Refusal::Record);
     }
-    let counts = (other.layers, other.columns) == (site.layers.len() as u64, site.columns() as u64);
-    let depths = ledger
-        .places
-        .keys()
-        .all(|&place| readings::drawdown(other, place).is_ok_and(|depth| i128::from(depth) == ledger.drawdown(place)));
-    Ok(counts && depths)
+    let totals: [i128; 4] = [other.pumped.into(), other.inflow.into(), other.time.into(), other.mark.into()];
+    Ok(other.site() == *site
+        && totals == [ledger.pumped, ledger.inflow, ledger.time, ledger.deepest_well]
+        && ledger.places.iter().all(|(&place, stored)| water_at(other, place) == (stored.loss, stored.storage))
+        && ledger.faces.iter().all(|face| kept_at(other, face) == face.conductance))
+}
+
+/// V and S of a place.
+fn water_at(record: &Record, place: Place) -> (i128, i128) {
+    match place {
+        Place::Well => (record.well_loss.into(), record.well_s.into()),
+        Place::Cell { layer, column } => {
+            let at = slot(layer as usize, column as usize);
+            (record.cell_loss[at].into(), record.cell_s[at].into())
+        }
+    }
+}
+
+/// The C that a record keeps of one of the ledger's faces, whose first end is the inner or the upper one.
+fn kept_at(record: &Record, face: &Face) -> i128 {
+    let conductance = match (face.from, face.to) {
+        (Place::Cell { layer, column }, Place::Cell { layer: below, .. }) => {
+            let slots = if below == layer { &record.across_c } else { &record.down_c };
+            slots[slot(layer as usize, column as usize)]
+        }
+        (_, Place::Cell { layer, .. }) => record.well_c[layer as usize - 1],
+        (_, Place::Well) => unreachable!("the well is a first end"),
+    };
+    conductance.into()
 }
 
 /// The record's losses, totals and time are the ledger's, its mark is the greatest D that the ledger's well has had, 14 lets it pass, and
@@ -280,7 +314,7 @@ pub fn check_state(record: &Record, ledger: &Ledger) -> Result<(), String> {
     equal("mark", i128::from(record.mark), ledger.deepest_well)?;
     equal("well's loss", i128::from(record.well_loss), ledger.places[&Place::Well].loss)?;
     for (layer, column) in record.stored_cells() {
-        let (place, at) = (cell(layer, column), reference_model::grid::slot(layer, column));
+        let (place, at) = (cell(layer, column), slot(layer, column));
         equal("cell's loss", i128::from(record.cell_loss[at]), ledger.places[&place].loss)?;
     }
     for &place in ledger.places.keys() {

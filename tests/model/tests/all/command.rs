@@ -113,7 +113,32 @@ fn changed_records_are_stepped() {
     for line in ["marks 1 taken", "marks 2 refused 14", "marks 5 taken", "marks 6 refused 14", "marks 15 refused 14"] {
         assert!(records.contains(&format!("\n{line}")), "{line}");
     }
-    assert_eq!((records.lines().count(), records.matches("\nmarks ").count()), (1 + 233, 32));
+    assert_eq!((records.lines().count(), records.matches("\nmarks ").count()), (1 + 260 + 260 + 27, 32));
+}
+
+/// Whether each changed record is the same as bore K as it was, and as the one before it in its group (document 02, N10).
+#[test]
+fn changed_records_are_compared() {
+    let records = printed(model_on("k-same", &["records"], &text_of(&NUMBERS)));
+    let lines: Vec<&str> = records.lines().collect();
+    let after = |name: &str| &lines[lines.iter().position(|line| line.starts_with(name)).expect(name) + 1..];
+    // One layer; two, as there were; three: the first and the last of these are refused, on either side.
+    let refused = "same refused 14 refused 14 refused 14 refused 14";
+    assert_eq!(after("counts 1 ")[0], refused);
+    assert_eq!(after("counts 2 ")[0], "same 1 1 refused 14 refused 14");
+    assert_eq!(after("counts 3 ")[0], refused);
+    // Of the waters the first is bore K as it was. The others differ in a number or two, and but for 10 and 11 in no drawdown.
+    for number in 1..=27 {
+        let lines = after(&format!("waters {number} taken "));
+        let same = if number == 1 { "same 1 1 1 1" } else { "same 0 0 0 0" };
+        let drawdowns = match number {
+            10 => "drawdowns 0 0",
+            11 => "drawdowns 0 1",
+            12 => "drawdowns 1 0",
+            _ => "drawdowns 1 1",
+        };
+        assert_eq!((lines[0], lines[1]), (same, drawdowns), "waters {number}");
+    }
 }
 
 #[test]

@@ -56,7 +56,7 @@ pub fn ledger_of(record: &Record) -> Ledger {
 }
 
 /// Every slot of a record that holds a number without sign, and every one with.
-fn slots(record: &mut Record) -> (Vec<&mut [u64]>, Vec<&mut [i64]>) {
+pub fn slots(record: &mut Record) -> (Vec<&mut [u64]>, Vec<&mut [i64]>) {
     let whole: Vec<&mut [u64]> = vec![
         from_mut(&mut record.layers),
         from_mut(&mut record.columns),

@@ -13,6 +13,7 @@ mod records;
 mod report_rule;
 mod rests;
 mod runs;
+mod sameness;
 mod stored;
 mod texts;
 mod thiem;

@@ -1,0 +1,28 @@
+-- The same list of calls, made on one record and on another (document 02, N10): with equal arguments beside the record, each on the record that the last
+-- one left.
+use mathlib.Core.List.{List, [], _∷_}
+use Prim.Native.Nat.{ℕ}
+use Rattle.record.specs.declared.Record.{Record}
+use Rattle.readings.specs.declared.Place.{Place}
+use Rattle.ledger.specs.Calls.{drawdown, budget, loss, flow, deep, same, sameAs, headLoss, Call, step, read, left}
+
+-- two calls of one kind with equal arguments: numbers, places, the bytes of a set, a lent list as it is before the call, another record
+pub data SameCall : Call → Call → Type 0 where
+  same-step : {rate dt : ℕ} → SameCall (step rate dt) (step rate dt)
+  same-drawdown : {p : Place} → SameCall (read (drawdown p)) (read (drawdown p))
+  same-budget : SameCall (read budget) (read budget)
+  same-loss : {bytes : List ℕ} → SameCall (read (loss bytes)) (read (loss bytes))
+  same-flow : {a b : Place} {dt : ℕ} → SameCall (read (flow a b dt)) (read (flow a b dt))
+  same-deep : {D : ℕ} {old : List ℕ} → SameCall (read (deep D old)) (read (deep D old))
+  same-same : {q : Record} → SameCall (read (same q)) (read (same q))
+  same-sameAs : {q : Record} → SameCall (read (sameAs q)) (read (sameAs q))
+  same-headLoss : {layer dt : ℕ} → SameCall (read (headLoss layer dt)) (read (headLoss layer dt))
+
+pub data SameCalls : List Call → List Call → Type 0 where
+  none : SameCalls [] []
+  further : {c d : Call} {cs ds : List Call} → SameCall c d → SameCalls cs ds → SameCalls (c ∷ cs) (d ∷ ds)
+
+-- the record after each call of a list, from the record r on
+unfoldable pub recordsAfter : Record → List Call → List Record
+recordsAfter r [] = []
+recordsAfter r (c ∷ cs) = left r c ∷ recordsAfter (left r c) cs
