@@ -1,5 +1,5 @@
 // The changes, by group and number. Each is one number that document 01 limits, at its last allowed and its first forbidden value, or a few
-// numbers that go together. `before` is what stood there.
+// numbers that go together; in the group `waters` one that is allowed, by one. `before` is what stood there.
 // Where a change of R_0, R_1, b_2 or Kv_2 would else be refused for the C between layers 1 and 2 (document 02, N6), it has the C with it that
 // bore K then keeps, 2×A_1×Kv_2/b_2, rounded down; that of R_0 to 5001 has the largest grid's.
 // Changed losses have a mark with them (document 02, N1) that is no less than the drawdowns that bore K then has, so that a change is refused
@@ -546,9 +546,10 @@ fn with_screen_loss(before: Site, count: u64, first: u64) -> Site {
     site
 }
 
-// For same (document 02, N10), by one number or by two that keep the sum: bore K as its first entry leaves it; 1 nl from one place to another, or
-// between a place and the last column; more of both totals; the time; the mark; a well that has recovered, and one that was never so deep. Then
-// C and S, and numbers of the scenario. All are allowed of bore K, and but for the recovered well no drawdown is another.
+// For same (document 02, N10): bore K as its first entry leaves it; 1 nl from one place to another, or between a place and the last column; 1 nl
+// more of pumped and inflow total; the time; the mark; a well that has recovered, and the same that was never so deep. Then C and S, and numbers of
+// the scenario. All are allowed of bore K. But for the recovered well no drawdown is another, and each differs from bore K or from the change
+// before it in one number, or in two that keep the sum.
 pub fn waters(before: Record, case: u64) -> Record {
     match case {
         1 => with_state(before, 990468379, 0, 9531621, 0, 1000000000, 1000000, 33015),
@@ -581,8 +582,8 @@ fn other_coefficient(before: Record, case: u64) -> Record {
     rec
 }
 
-// One number of bore K's scenario, by one, of those that the C between layers 1 and 2 has no part in: friction; a coefficient 0 more, that
-// coefficient, and one 0 more; intake, b_1, Kh_2, Kv_1, yield and storage, and the last radius.
+// One number of bore K's scenario, by one, of those that have no part in the C between layers 1 and 2: friction; one coefficient more, which is 0,
+// that coefficient 1, and a second one, which is 0; intake, b_1, Kh_2, Kv_1, yield and storage, and the last radius.
 fn other_site(before: Site, case: u64) -> Site {
     let mut site = before;
     match case {

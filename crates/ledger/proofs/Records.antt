@@ -1,6 +1,6 @@
 -- The record of a run and the ledger, call by call: laws only, nothing to believe.
---     Runs              a record carries the ledger's state after some accepted steps, and holds that, the scenario and the largest D that the well has had in
---                       them, and nothing else; start-whole: so does the record at the start; mark-is: its mark
+--     Runs              a record carries the ledger's state after some accepted steps, and is the one that holds the scenario with its C and S, that state and
+--                       the largest D that the well has had in them; start-whole: so is the record at the start; mark-is: its mark
 --     runs-left         so does the record that a call leaves; runs-all: that a list of calls leaves
 --     same-outcomes     the outcomes among their replies are the ledger's
 use mathlib.Core.Path.{_≡_, refl, sym, ap, ap₂, subst, _∙_}

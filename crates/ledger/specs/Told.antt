@@ -72,8 +72,8 @@ module _ (scenario : Site) (steps : List Accepted) (s : State) where
   -- the cells deeper than D: how many, and in the lent list the code of each in the reading's order; 13 for a list too short
   Tells (read (deep D old)) reply =
       reply ≡ listed (listedOf (first ((ltb (length old) (deepCountIn G (s .losses) D), 13) ∷ [])) (deepCountIn G (s .losses) D) (deepCodesIn G (s .losses) D) old)
-  -- whether another record holds this scenario, the ledger's losses, totals and time, and the largest D that the well has had (document 02, N10), and the other
-  -- way round; 14 for that record
+  -- whether another record holds this scenario with its C and S, the ledger's losses, totals and time, and the largest D that the well has had (document 02, N10),
+  -- and the other way round; 14 for that record
   Tells (read (same q)) reply = reply ≡ compared (samenessOf (first ((not (valid q), 14) ∷ [])) (sameRecord (recordWith scenario s (greatest N steps)) q))
   Tells (read (sameAs q)) reply = reply ≡ compared (samenessOf (first ((not (valid q), 14) ∷ [])) (sameRecord q (recordWith scenario s (greatest N steps))))
   -- inflow, screen loss and pipe loss of a layer, from 1, for a step Δt not taken; 12 for no such screened layer, 7 and 8 for the Δt

@@ -10,7 +10,7 @@ ghost use Rattle.validity.specs.Validity.{equalℤ};
 ghost use Rattle.readings.specs.Readings.{sameSite, sameCoefficients, sameWater, sameRecord, sameOf};
 ghost use Rattle.read_same.specs.Same.{Compares};
 
-// Whether two lists hold the same numbers.
+// Whether two lists hold the same numbers. Every slot counts, used or not.
 fn equal_numbers<'a>(one: &'a [u64], other: &'a [u64]) -> bool
     ensures { λ r. ⌜ r ≡ pairwise eqb (now (one .entry)) (now (other .entry)) ⌝ }
 {
@@ -64,7 +64,7 @@ fn same_site(one: Site, other: Site) -> bool
         & equal_numbers(&one.loss_coefficients, &other.loss_coefficients)
 }
 
-// Whether two records have the same C of each face and S of each cell. Every slot counts, used or not.
+// Whether two records have the same C of each face and S of each cell.
 fn same_coefficients(first: Record, second: Record) -> bool
     ensures { λ r. ⌜ r ≡ sameCoefficients first second ⌝ }
 {

@@ -508,10 +508,10 @@ fn set_coefficients(record: &mut Record, count: u64, first: u64) {
     (record.screen_loss_count, record.screen_losses[0]) = (count, first);
 }
 
-/// For same (document 02, N10), by one number or by two that keep the sum: bore K as its first entry leaves it; 1 nl from one place to another,
-/// or between a place and the last column; more of both totals; the time; the mark; a well that has recovered, and one that was never so deep.
-/// Then C and S; friction, coefficients, intake, and the other scenario numbers that the C between layers 1 and 2 has no part in. All are
-/// allowed of bore K, and but for the recovered well no drawdown is another.
+/// For same (document 02, N10): bore K as its first entry leaves it; 1 nl from one place to another, or between a place and the last column; 1 nl
+/// more of pumped and inflow total; the time; the mark; a well that has recovered, and the same that was never so deep. Then C and S; friction,
+/// coefficients, intake, and other numbers of the scenario that have no part in the C between layers 1 and 2. All are allowed of bore K. But for
+/// the recovered well no drawdown is another, and each differs from bore K or from the change before it in one number, or in two that keep the sum.
 const WATERS: [Change; 27] = [
     |record| set_state(record, [990_468_379, 0, 9_531_621], 0, 1_000_000_000, 1_000_000, 33_015),
     |record| set_state(record, [990_468_378, 1, 9_531_621], 0, 1_000_000_000, 1_000_000, 33_015),

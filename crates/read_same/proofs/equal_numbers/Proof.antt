@@ -1,5 +1,5 @@
 -- `read_same::equal_numbers`: what stands before the loop's place is equal, so that the rest decides.
-use mathlib.Core.Path.{_≡_, sym}
+use mathlib.Core.Path.{sym}
 use Prim.Native.Nat.{_-_}
 use native.Mathlib.Omega.{arith}
 use borrow.Author.Tests.{eq-eqb, ne-eqb}

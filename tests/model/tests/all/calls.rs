@@ -139,13 +139,15 @@ impl Drawer<'_> {
         (0..length).map(|_| self.random.word()).collect()
     }
 
-    /// Any other record: the list's own, the start's, one that differs from it in a nl at two places, in one number or in its mark, or none.
+    /// Another record: the list's own or the start's, as it is, with a nl moved, or with another total, time, mark, C, S, friction or coefficient
+    /// count; or the all-zero one.
     pub fn other(&mut self, record: &Record, start: &Record) -> Record {
         let mut other = if self.random.once_in(2) { record.clone() } else { start.clone() };
         let intake = 1000 * other.intake_depth as i64;
         let cells: Vec<_> = other.stored_cells().map(|(layer, column)| slot(layer, column)).collect();
         let at = self.random.one_of(&cells);
-        match self.random.between(0, 14) {
+        let last = slot(other.layers as usize - 1, 1);
+        match self.random.between(0, 17) {
             0 => {
                 other.inflow += 1;
                 other.pumped += 1;
@@ -160,6 +162,8 @@ impl Drawer<'_> {
             8 => other.cell_s[at] += 1,
             9 => other.friction ^= 1,
             10 => other.screen_loss_count += 1,
+            11 => other.down_c[last] ^= 1,
+            12 => other.well_c[other.layers as usize - 1] ^= 1,
             _ => (),
         }
         other

@@ -127,7 +127,8 @@ fn changed_records_are_compared() {
     assert_eq!(after("counts 1 ")[0], refused);
     assert_eq!(after("counts 2 ")[0], "same 1 1 refused 14 refused 14");
     assert_eq!(after("counts 3 ")[0], refused);
-    // Of the waters the first is bore K as it was. The others differ in a number or two, and but for 10 and 11 in no drawdown.
+    // Of the waters the first is bore K as it was; none of the others is, nor the same as the one before it, though no drawdown but that of the
+    // recovered well, 10 and 11, is another.
     for number in 1..=27 {
         let lines = after(&format!("waters {number} taken "));
         let same = if number == 1 { "same 1 1 1 1" } else { "same 0 0 0 0" };

@@ -117,7 +117,9 @@ fn the_ledger_tells_the_same() {
         let (mut record, mut ledger) = (at_start.clone(), Ledger::start(&text).expect("the text is accepted"));
         let longest = longest_step(&ledger);
         let mut drawer = Drawer { random: Random::new(number as u64), scenario: &scenario, longest };
+        let rate = scenario.pumping.first().map_or(1000, |entry| entry.rate);
         for _ in 0..3 {
+            assert_eq!(step(&mut record, rate, longest), ledger.step(rate, longest));
             for _ in 0..20 {
                 let other = drawer.other(&record, &at_start);
                 let found = answer(&record, &other);
@@ -129,9 +131,7 @@ fn the_ledger_tells_the_same() {
                     Err(_) => refused += 1,
                 }
             }
-            let rate = scenario.pumping.first().map_or(1000, |entry| entry.rate);
-            assert_eq!(step(&mut record, rate, longest), ledger.step(rate, longest));
         }
     }
-    assert!(yes >= 500 && no >= 500 && no_by_nl >= 1000 && refused >= 1000, "{yes} {no} {no_by_nl} {refused}");
+    assert!(yes >= 500 && no >= 900 && no_by_nl >= 1000 && refused >= 1000, "{yes} {no} {no_by_nl} {refused}");
 }
