@@ -78,7 +78,7 @@ module _ {scenario : Site} {s : State} {r : Record} (h : Carries scenario s r) w
   same-place i zero = refl
   same-place i (suc j) = rw (same-count, same-columns)
 
-  pub same-places : place (gridOf r) ≡ place G
+  same-places : place (gridOf r) ≡ place G
   same-places = fun-ext (λ i. fun-ext (same-place i))
 
   same-number : (p : Place) → numberOf (gridOf r) p ≡ numberOf G p

@@ -19,17 +19,16 @@ use Rattle.network.specs.Grid.{place, networkOf}
 use Rattle.network.specs.laws.Preserve.{loss-at-rest, depth-at-rest}
 use Rattle.site.specs.declared.Site.{Site}
 use Rattle.record.specs.declared.Record.{Record}
-use Rattle.record.specs.Record.{slots, isCell}
+use Rattle.record.specs.Record.{slots, isCell, gridOf}
 use Rattle.coefficients.specs.Coefficients.{scenarioGrid, startRecord}
-use Rattle.step_rules.specs.Step.{withState}
+use Rattle.step_rules.specs.Step.{holding, withState}
 use Rattle.start_laws.specs.Laws.{Carries, network-is}
 use Rattle.start_laws.specs.Steps.{outcome-is, carries-on, record-on}
 use Rattle.ledger.specs.Calls.{Reading, drawdown, budget, loss, flow, deep, same, sameAs, headLoss, Call, step, read, Reply, replyTo, left, leftByAll, repliesTo}
 use Rattle.ledger.specs.Ledger.{afterCall, afterCalls, outcomesFrom, Accepted, acceptedFrom, greatest}
-use Rattle.ledger.specs.Told.{recordWith, stepsAfter}
+use Rattle.ledger.specs.Told.{stepsAfter}
 use Rattle.ledger.proofs.AcceptedSteps.{Steps, one-more, greatest-more}
 use Rattle.ledger.specs.Promise.{outcomesIn}
-use Rattle.ledger.proofs.Readings.{same-places}
 
 carries-left : {scenario : Site} {s : State} {r : Record} → Carries scenario s r → (c : Call)
     → Carries scenario (afterCall (networkOf (scenarioGrid scenario)) s c) (left r c)
@@ -41,10 +40,9 @@ carries-left h (step rate dt) = carries-on h rate dt
 pub record Runs (scenario : Site) (ts : List Accepted) (s : State) (r : Record) : Type 0 where
   pub carries : Carries scenario s r
   pub steps : Steps (networkOf (scenarioGrid scenario)) (atRest (networkOf (scenarioGrid scenario))) ts s
-  pub whole : r ≡ recordWith scenario s (greatest (networkOf (scenarioGrid scenario)) ts)
+  pub whole : r ≡ holding (startRecord scenario) s (greatest (networkOf (scenarioGrid scenario)) ts)
 
 pub mark-is : {scenario : Site} {ts : List Accepted} {s : State} {r : Record} → Runs scenario ts s r → r .mark ≡ greatest (networkOf (scenarioGrid scenario)) ts
-unfolding recordWith
 mark-is h = ap (λ q. q .mark) (h .whole)
 
 module _ (scenario : Site) where
@@ -53,24 +51,24 @@ module _ (scenario : Site) where
 
   -- V of a layer and column at rest
   abbrev lost : ℕ → ℕ → ℤ
-  lost i j = cond (isCell scenario i j) (lossAt (atRest N .losses) (place (scenarioGrid scenario) i j)) (pos 0)
+  lost i j = cond (isCell scenario i j) (lossAt (atRest N .losses) (place (gridOf (startRecord scenario)) i j)) (pos 0)
 
   none-lost : (i j : ℕ) → lost i j ≡ pos 0
-  none-lost i j = by-test (isCell scenario i j) (place (scenarioGrid scenario) i j)
+  none-lost i j = by-test (isCell scenario i j) (place (gridOf (startRecord scenario)) i j)
     where
       by-test : (t : Bool) (p : ℕ) → cond t (lossAt (atRest N .losses) p) (pos 0) ≡ pos 0
       by-test true p = loss-at-rest N p
       by-test false p = refl
 
-  pub start-whole : startRecord scenario ≡ recordWith scenario (atRest N) (greatest N [])
-  unfolding startRecord recordWith slots greatest atRest
+  pub start-whole : startRecord scenario ≡ holding (startRecord scenario) (atRest N) (greatest N [])
+  unfolding startRecord slots greatest atRest
   start-whole = rw (loss-at-rest N 0, depth-at-rest N 0, map-range-same (pos 0) (λ k. lost (k / columnPlaces) (k % columnPlaces + 1)) 0 cellPlaces (λ k. none-lost (k / columnPlaces) (k % columnPlaces + 1)))
 
   -- a record of a run with another state
   moved-whole : {ts : List Accepted} {s : State} {r : Record} → Runs scenario ts s r → (s′ : State)
-      → withState r s′ ≡ recordWith scenario s′ (larger (greatest N ts) (network.drawdown N (s′ .losses) 0))
-  unfolding withState recordWith
-  moved-whole h s′ = rw (network-is (h .carries), same-places (h .carries), h .whole)
+      → withState r s′ ≡ holding (startRecord scenario) s′ (larger (greatest N ts) (network.drawdown N (s′ .losses) 0))
+  unfolding withState gridOf
+  moved-whole h s′ = rw (network-is (h .carries), h .whole)
 
   runs-step : {ts : List Accepted} {s : State} {r : Record} → Runs scenario ts s r → (rate dt : ℕ)
       → Runs scenario (stepsAfter scenario ts s (step rate dt)) (afterCall N s (step rate dt)) (left r (step rate dt))
@@ -88,8 +86,8 @@ module _ (scenario : Site) where
       stepped true e = one-more N rate dt (h .steps) (e refl)
       stepped false e = rw (append-nil ts) (h .steps)
 
-      whole : (t : Bool) → cond t (withState r (moved N s rate dt)) r ≡ recordWith scenario (cond t (moved N s rate dt) s) (greatest N (ts ++ cond t more []))
-      whole true = moved-whole h (moved N s rate dt) ∙ ap (recordWith scenario (moved N s rate dt)) (greatest-more N rate dt s ts)
+      whole : (t : Bool) → cond t (withState r (moved N s rate dt)) r ≡ holding (startRecord scenario) (cond t (moved N s rate dt) s) (greatest N (ts ++ cond t more []))
+      whole true = moved-whole h (moved N s rate dt) ∙ ap (holding (startRecord scenario) (moved N s rate dt)) (greatest-more N rate dt s ts)
       whole false = rw (append-nil ts) (h .whole)
 
   pub runs-left : {ts : List Accepted} {s : State} {r : Record} → Runs scenario ts s r → (c : Call)

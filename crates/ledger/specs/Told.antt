@@ -3,44 +3,26 @@
 -- handed in for comparison.
 -- Units: D µm; V, totals and water nl; Δt µs; inflow l/s, head losses m.
 use mathlib.Core.Path.{_≡_}
-use mathlib.Core.Bool.{cond, not, _||_}
+use mathlib.Core.Bool.{not, _||_}
 use mathlib.Core.List.{List, [], _∷_, _++_}
 use Prim.Native.Nat.{_-_}
 use lib.Dec.{eqb, ltb}
-use lib.IntN.{ℤ, pos}
 use lib.ListN.{length}
 use Rattle.laws.specs.Lists.{first}
-use Rattle.network.specs.Network.{Network, State, lossAt, lossIn, lengthOut, unstable, refusal}
+use Rattle.network.specs.Network.{Network, State, lossIn, lengthOut, unstable, refusal}
 use Rattle.network.specs.Network as network
-use Rattle.network.specs.Grid.{Grid, placeCount, place, networkOf}
+use Rattle.network.specs.Grid.{Grid, placeCount, networkOf}
 use Rattle.site.specs.declared.Site.{Site}
-use Rattle.record.specs.declared.Record.{Record}
 use Rattle.record.specs.declared.Answer.{Answer}
-use Rattle.record.specs.Record.{slots, isCell, stateOf, outcomeOf}
+use Rattle.record.specs.Record.{stateOf, outcomeOf}
 use Rattle.validity.specs.Validity.{valid}
 use Rattle.coefficients.specs.Coefficients.{scenarioGrid, startRecord}
+use Rattle.step_rules.specs.Step.{holding}
 use Rattle.readings.specs.Readings.{amountOf, balanceOf, samenessOf, isNamed, numberOf, totalsIn, setOf, leads, waterFrom, deepCountIn, deepCodesIn, listedOf, sameRecord}
 use Rattle.hydraulics.specs.Hydraulics.{inflowOf}
 use Rattle.read_head_loss.specs.HeadLoss.{waterInto, lossesAt, lossAnswerOf, isScreenedLayer}
 use Rattle.ledger.specs.Calls.{drawdown, budget, loss, flow, deep, same, sameAs, headLoss, Call, step, read, Reply, stepped, amount, balance, listed, compared, losses}
 use Rattle.ledger.specs.Ledger.{afterCall, Accepted, acceptedFrom, greatest}
-
--- the record that holds a scenario and a state: its numbers, each C and S in its slot as at the start, each V in its slot, and a mark, µm
-unfoldable pub recordWith : Site → State → ℤ → Record
-recordWith scenario s mark = record {
-  site = scenario;
-  screen = startRecord scenario .screen;
-  horizontal = startRecord scenario .horizontal;
-  vertical = startRecord scenario .vertical;
-  storages = startRecord scenario .storages;
-  losses = slots (λ i j. cond (isCell scenario i j) (lossAt (s .losses) (place (scenarioGrid scenario) i j)) (pos 0));
-  «well_storage» = startRecord scenario .«well_storage»;
-  «well_loss» = lossAt (s .losses) 0;
-  pumped = s .pumped;
-  inflow = s .inflow;
-  time = s .time;
-  mark = mark;
-}
 
 module _ (scenario : Site) (steps : List Accepted) (s : State) where
   abbrev G : Grid
@@ -72,10 +54,10 @@ module _ (scenario : Site) (steps : List Accepted) (s : State) where
   -- the cells deeper than D: how many, and in the lent list the code of each in the reading's order; 13 for a list too short
   Tells (read (deep D old)) reply =
       reply ≡ listed (listedOf (first ((ltb (length old) (deepCountIn G (s .losses) D), 13) ∷ [])) (deepCountIn G (s .losses) D) (deepCodesIn G (s .losses) D) old)
-  -- whether another record holds this scenario with its C and S, the ledger's losses, totals and time, and the largest D that the well has had (document 02, N10),
-  -- and the other way round; 14 for that record
-  Tells (read (same q)) reply = reply ≡ compared (samenessOf (first ((not (valid q), 14) ∷ [])) (sameRecord (recordWith scenario s (greatest N steps)) q))
-  Tells (read (sameAs q)) reply = reply ≡ compared (samenessOf (first ((not (valid q), 14) ∷ [])) (sameRecord q (recordWith scenario s (greatest N steps))))
+  -- whether another record is the one that holds this scenario with its C and S, the ledger's losses, totals and time, and the largest D that the well has had
+  -- (document 02, N10), and the other way round; 14 for that record
+  Tells (read (same q)) reply = reply ≡ compared (samenessOf (first ((not (valid q), 14) ∷ [])) (sameRecord (holding (startRecord scenario) s (greatest N steps)) q))
+  Tells (read (sameAs q)) reply = reply ≡ compared (samenessOf (first ((not (valid q), 14) ∷ [])) (sameRecord q (holding (startRecord scenario) s (greatest N steps))))
   -- inflow, screen loss and pipe loss of a layer, from 1, for a step Δt not taken; 12 for no such screened layer, 7 and 8 for the Δt
   Tells (read (headLoss layer dt)) reply =
       reply ≡ losses (lossAnswerOf (first ((not (isScreenedLayer G layer), 12) ∷ (lengthOut dt, 7) ∷ (unstable N dt, 8) ∷ []))

@@ -2,7 +2,7 @@
 use mathlib.Core.Bool.{not, cond}
 use mathlib.Core.List.{_∷_}
 use Prim.Native.Nat.{ℕ}
-use lib.IntN.{pos}
+use lib.IntN.{ℤ, pos}
 use Rattle.laws.specs.Lists.{larger, first}
 use Rattle.network.specs.Network.{State, lossAt, drawdown, moved, stepTests}
 use Rattle.network.specs.Grid.{place, networkOf}
@@ -11,9 +11,9 @@ use Rattle.record.specs.declared.Answer.{Answer}
 use Rattle.record.specs.Record.{slots, isCell, gridOf, stateOf, answerOf}
 use Rattle.validity.specs.Validity.{valid}
 
--- the record with another state: each cell's loss in its slot; the mark, µm, is the larger of what it was and the well's D in that state (N1)
-unfoldable pub withState : Record → State → Record
-withState r s = record {
+-- the record with another state, each cell's loss in its slot, and another mark, µm
+abbrev pub holding : Record → State → ℤ → Record
+holding r s mark = record {
   site = r .site;
   screen = r .screen;
   horizontal = r .horizontal;
@@ -25,8 +25,12 @@ withState r s = record {
   pumped = s .pumped;
   inflow = s .inflow;
   time = s .time;
-  mark = larger (r .mark) (drawdown (networkOf (gridOf r)) (s .losses) 0);
+  mark = mark;
 }
+
+-- the record with another state, of which the mark is the larger of what it was and the well's D in that state (N1)
+unfoldable pub withState : Record → State → Record
+withState r s = holding r s (larger (r .mark) (drawdown (networkOf (gridOf r)) (s .losses) 0))
 
 -- the number of the first condition that forbids the step, 0 if none does: 14, then 7 to 11
 unfoldable pub stepRefusal : Record → ℕ → ℕ → ℕ
