@@ -1,7 +1,7 @@
 // Changes one number, or the few that go with it, in the record that each scenario text gives, and prints what a step of it comes to: every
-// condition of 14 broken just barely beside its nearest allowed neighbour, and 9 by the pumped total and by the time. Then what same answers of
-// it and the unchanged record, and of it and the one before it in its group (document 02, N10). The reference model prints the same
-// (tests/stored). The changes are chosen for bore K, and tried on every text.
+// condition of 14 broken just barely beside its nearest allowed neighbour, and 9 by the pumped total and by the time. Then what holds that step
+// back, and one of the greatest length (document 02, N12), and what same answers of the changed record and the unchanged one, and of it and the one
+// before it in its group (N10). The reference model prints the same (tests/stored). The changes are chosen for bore K, and tried on every text.
 use check_print::print;
 use check_print::print_line_end;
 use check_print::print_number;
@@ -20,7 +20,8 @@ const RATE: u64 = 1000;
 
 const LENGTH: u64 = 500000;
 
-// The outcome of the step, with the checksum of the record that it gives where 14 does not refuse it.
+// The outcome of the step, with the checksum of the record that it gives where 14 does not refuse it, and what holds it back, and one of the
+// greatest length.
 fn print_step(rec: Record) {
     let answer = step::step(rec, RATE, LENGTH);
     let outcome = answer.outcome;
@@ -38,6 +39,8 @@ fn print_step(rec: Record) {
         }
     }
     print_line_end();
+    check_report::print_limiting(rec, RATE, LENGTH);
+    check_report::print_limiting(rec, RATE, 1000000000);
 }
 
 // The changes to the scenario's numbers, by group and number.

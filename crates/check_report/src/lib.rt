@@ -7,6 +7,7 @@ use check_print::print_number;
 use check_print::print_refusal;
 use check_print::size;
 use read_head_loss::Loss;
+use read_limiting::Limiting;
 use readings::Amount;
 use readings::Balance;
 use readings::Count;
@@ -457,10 +458,82 @@ fn print_length(rec: Record, dt: u64) {
     print_line_end();
 }
 
+// ---- what would hold back a step not taken
+
+// Layer and column, 0 and 0 for the well.
+fn print_place(place: Place) {
+    match place {
+        Place::Well => {
+            print_number(0);
+            print_number(0);
+        }
+        Place::Cell(layer, column) => {
+            print_number(layer);
+            print_number(column);
+        }
+    }
+}
+
+// The number of a refusal, and the place that brings it about.
+fn print_held(number: u64, place: Place) {
+    print_number(number);
+    print_place(place);
+}
+
+fn print_limit(limit: Limiting) {
+    match limit {
+        Limiting::TooLong(place, longest) => {
+            print_held(8, place);
+            print_number(longest);
+        }
+        Limiting::PastIntake(place) => print_held(10, place),
+        Limiting::PastBottom(place) => print_held(11, place),
+        Limiting::Nothing => print(b" nothing"),
+        Limiting::Refused(number) => print_refusal(number),
+    }
+}
+
+// The longest step that 8 allows, where that is what holds the step back; else the greatest length.
+fn longest_in(limit: Limiting) -> u64 {
+    if let Limiting::TooLong(_, longest) = limit {
+        return longest;
+    }
+    1000000000
+}
+
+// What would hold back a step of a rate and a length; gives the longest step that 8 allows, or the greatest length.
+pub fn print_limiting(rec: Record, rate: u64, dt: u64) -> u64 {
+    print(b"limiting");
+    print_number(rate);
+    print_number(dt);
+    let limit = read_limiting::limiting_place(rec, rate, dt);
+    print_limit(limit);
+    print_line_end();
+    longest_in(limit)
+}
+
+// Where 8 is what holds the step of the greatest length back: a step of 1 µs more than the longest that 8 allows, the longest, and that at the
+// greatest rate.
+fn print_longest(rec: Record, rate: u64, longest: u64) {
+    if 1000000000 <= longest {
+        return;
+    }
+    print_limiting(rec, rate, longest + 1);
+    print_limiting(rec, rate, longest);
+    print_limiting(rec, 10000000, longest);
+}
+
+fn print_limits(rec: Record, rate: u64, dt: u64) {
+    print_limiting(rec, rate, dt);
+    let longest = print_limiting(rec, rate, 1000000000);
+    print_longest(rec, rate, longest);
+    print_limiting(rec, 10000000, dt);
+}
+
 // ---- everything
 
-// Every reading of a record; flows for a length not taken.
-pub fn print_readings(rec: Record, before: Record, start: Record, dt: u64) {
+// Every reading of a record; those of a step not taken for a rate and a length.
+pub fn print_readings(rec: Record, before: Record, start: Record, rate: u64, dt: u64) {
     print(b"time");
     print_number(rec.time);
     print_line_end();
@@ -482,9 +555,10 @@ pub fn print_readings(rec: Record, before: Record, start: Record, dt: u64) {
     print_length(rec, dt);
     print_length(rec, 1000000000);
     print_length(rec, 1000000001);
+    print_limits(rec, rate, dt);
 }
 
-// ---- readings that 12 refuses, before any length is judged
+// ---- readings that 12 refuses, before any length is judged, and what would hold back steps that 7 refuses
 
 fn print_no_place(rec: Record, layer: u64, column: u64) {
     print(b"no place");
@@ -524,6 +598,13 @@ fn print_no_faces(rec: Record, layers: u64, columns: u64)
     print_no_face(rec, Place::Cell(1, 18446744073709551615), Place::Cell(1, 0));
 }
 
+fn print_no_limits(rec: Record) {
+    print_limiting(rec, 10000001, 1);
+    print_limiting(rec, 0, 0);
+    print_limiting(rec, 0, 1000000001);
+    print_limiting(rec, 18446744073709551615, 18446744073709551615);
+}
+
 pub fn print_refused_readings(rec: Record) {
     let layers = rec.site.layers;
     let columns = rec.site.columns;
@@ -535,6 +616,7 @@ pub fn print_refused_readings(rec: Record) {
     }
     print_no_places(rec, layers, columns);
     print_no_faces(rec, layers, columns);
+    print_no_limits(rec);
 }
 
 // ---- head losses

@@ -92,11 +92,11 @@ fn print_heading(number: u64, refusal: u64) {
 }
 
 // What is printed of a state: the readings in whole numbers, or the head losses.
-fn print_state(heads: bool, rec: Record, before: Record, start: Record, length: u64) {
+fn print_state(heads: bool, rec: Record, before: Record, start: Record, rate: u64, length: u64) {
     if heads {
         check_report::print_heads(rec, length);
     } else {
-        check_report::print_readings(rec, before, start, length);
+        check_report::print_readings(rec, before, start, rate, length);
     }
 }
 
@@ -112,7 +112,7 @@ fn print_entries_run(text: &[u8], heads: bool, start: Record) {
         let ran = run(rec, entry);
         print_heading(number, ran.refusal);
         let after = ran.record;
-        print_state(heads, after, rec, start, entry.length);
+        print_state(heads, after, rec, start, entry.rate, entry.length);
         rec = after;
         number += 1;
     }
@@ -127,7 +127,7 @@ fn print_refused(heads: bool, start: Record) {
     }
 }
 
-// The state at the start, for a length of 1 µs, and after each entry.
+// The state at the start, for a rate of 0 and a length of 1 µs, and after each entry.
 fn print_states(text: &[u8], heads: bool) {
     let answer = scenario::start(text);
     let outcome = answer.outcome;
@@ -137,7 +137,7 @@ fn print_states(text: &[u8], heads: bool) {
         Outcome::Taken => {
             print_heading(0, 0);
             print_refused(heads, start);
-            print_state(heads, start, start, start, 1);
+            print_state(heads, start, start, start, 0, 1);
             print_entries_run(text, heads, start);
         }
     }

@@ -24,7 +24,7 @@ use Rattle.coefficients.specs.Coefficients.{scenarioGrid, startRecord}
 use Rattle.step_rules.specs.Step.{holding, withState}
 use Rattle.start_laws.specs.Laws.{Carries, network-is}
 use Rattle.start_laws.specs.Steps.{outcome-is, carries-on, record-on}
-use Rattle.ledger.specs.Calls.{Reading, drawdown, budget, loss, flow, deep, same, sameAs, headLoss, Call, step, read, Reply, replyTo, left, leftByAll, repliesTo}
+use Rattle.ledger.specs.Calls.{Reading, drawdown, budget, loss, flow, deep, same, sameAs, headLoss, limiting, Call, step, read, Reply, replyTo, left, leftByAll, repliesTo}
 use Rattle.ledger.specs.Ledger.{afterCall, afterCalls, outcomesFrom, Accepted, acceptedFrom, greatest}
 use Rattle.ledger.specs.Told.{stepsAfter}
 use Rattle.ledger.proofs.AcceptedSteps.{Steps, one-more, greatest-more}
@@ -128,6 +128,7 @@ no-outcome r (deep D old) replies = refl
 no-outcome r (same q) replies = refl
 no-outcome r (sameAs q) replies = refl
 no-outcome r (headLoss layer dt) replies = refl
+no-outcome r (limiting rate dt) replies = refl
 
 pub same-outcomes : {scenario : Site} {s : State} {r : Record} (cs : List Call) → Carries scenario s r
     → outcomesIn (repliesTo r cs) ≡ outcomesFrom (networkOf (scenarioGrid scenario)) s cs

@@ -8,10 +8,10 @@ use Rattle.site.specs.declared.Site.{Site}
 use Rattle.record.specs.declared.Record.{Record}
 use Rattle.step_rules.specs.Step.{stepOf}
 use Rattle.start_laws.specs.Steps.{outcome-is}
-use Rattle.ledger.specs.Calls.{drawdown, budget, loss, flow, deep, same, sameAs, headLoss, Call, step, read, amount, balance, listed, compared, losses, replyTo, left, repliesTo}
+use Rattle.ledger.specs.Calls.{drawdown, budget, loss, flow, deep, same, sameAs, headLoss, limiting, Call, step, read, amount, balance, listed, compared, losses, limited, replyTo, left, repliesTo}
 use Rattle.ledger.specs.Ledger.{Accepted}
 use Rattle.ledger.specs.Told.{Tells, Told, nothing, further}
-use Rattle.ledger.proofs.Readings.{told-depth, told-budget, told-loss, told-flow, told-deep, told-same, told-same-as, told-head-loss}
+use Rattle.ledger.proofs.Readings.{told-depth, told-budget, told-loss, told-flow, told-deep, told-same, told-same-as, told-head-loss, told-limiting}
 use Rattle.ledger.proofs.Records.{Runs, mark-is, runs-left}
 
 tells : {scenario : Site} {steps : List Accepted} {s : State} {r : Record} → Runs scenario steps s r → (c : Call) → Tells scenario steps s c (replyTo r c)
@@ -25,6 +25,7 @@ tells h (read (deep D old)) = ap listed (told-deep (h .carries) D old)
 tells h (read (same q)) = ap compared (told-same (h .carries) (h .whole) q)
 tells h (read (sameAs q)) = ap compared (told-same-as (h .carries) (h .whole) q)
 tells h (read (headLoss layer dt)) = ap losses (told-head-loss (h .carries) layer dt)
+tells h (read (limiting rate dt)) = ap limited (told-limiting (h .carries) rate dt)
 
 pub told-all : {scenario : Site} {steps : List Accepted} {s : State} {r : Record} (cs : List Call) → Runs scenario steps s r → Told scenario steps s cs (repliesTo r cs)
 unfolding repliesTo

@@ -12,6 +12,8 @@ use Rattle.readings.specs.declared.Sameness.{Sameness}
 use Rattle.read_head_loss.specs.declared.Loss.{Loss}
 use Rattle.read_head_loss.specs.HeadLoss.{headLossOf}
 use Rattle.readings.specs.Readings.{drawdownOf, budgetOf, lossOf, flowOf, Listed, deepOf, sameOf}
+use Rattle.read_limiting.specs.declared.Limiting.{Limiting}
+use Rattle.read_limiting.specs.Limiting.{limitingOf}
 
 -- a reading, with its arguments beside the record
 pub data Reading : Type 0 where
@@ -23,6 +25,7 @@ pub data Reading : Type 0 where
   same : Record → Reading  -- the run's record first, the other second
   sameAs : Record → Reading  -- the other first
   headLoss : ℕ → ℕ → Reading  -- the layer, for a step Δt
+  limiting : ℕ → ℕ → Reading  -- rate and Δt of a step not taken
 
 pub data Call : Type 0 where
   step : ℕ → ℕ → Call  -- rate and Δt
@@ -36,6 +39,7 @@ pub data Reply : Type 0 where
   listed : Listed → Reply
   compared : Sameness → Reply
   losses : Loss → Reply
+  limited : Limiting → Reply
 
 -- what a call on the record r gives back
 unfoldable pub replyTo : Record → Call → Reply
@@ -48,6 +52,7 @@ replyTo r (read (deep D old)) = listed (deepOf r D old)
 replyTo r (read (same q)) = compared (sameOf r q)
 replyTo r (read (sameAs q)) = compared (sameOf q r)
 replyTo r (read (headLoss layer dt)) = losses (headLossOf r layer dt)
+replyTo r (read (limiting rate dt)) = limited (limitingOf r rate dt)
 
 -- the record that it leaves: a step the one that it returns, a reading the one that it was handed
 unfoldable pub left : Record → Call → Record

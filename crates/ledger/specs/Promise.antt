@@ -18,7 +18,7 @@ use Rattle.validity.specs.Validity.{valid}
 use Rattle.scenario.specs.Scenario.{scenarioOf}
 use Rattle.readings.specs.declared.Place.{Place}
 use Rattle.readings.specs.Readings.{amountOf, balanceOf, isNamed, numberOf, drawdownOf, budgetOf, lossOf}
-use Rattle.ledger.specs.Calls.{Call, Reply, stepped, amount, balance, listed, compared, losses}
+use Rattle.ledger.specs.Calls.{Call, Reply, stepped, amount, balance, listed, compared, losses, limited}
 use Rattle.ledger.specs.Ledger.{gridFrom, networkFrom, ledgerOf, outcomesFrom, acceptedOf, pumpedBy, inSet, netInto, greatest}
 use Rattle.ledger.specs.Told.{Told}
 
@@ -31,6 +31,7 @@ outcomesIn (balance b ∷ rs) = outcomesIn rs
 outcomesIn (listed l ∷ rs) = outcomesIn rs
 outcomesIn (compared s ∷ rs) = outcomesIn rs
 outcomesIn (losses l ∷ rs) = outcomesIn rs
+outcomesIn (limited l ∷ rs) = outcomesIn rs
 
 -- what holds of the replies of a list of calls from the record that start gives for a text, and of the record r that the last of them left
 pub record Holds (text : List ℕ) (calls : List Call) (replies : List Reply) (r : Record) : Type 0 where

@@ -21,7 +21,8 @@ use Rattle.step_rules.specs.Step.{holding}
 use Rattle.readings.specs.Readings.{amountOf, balanceOf, samenessOf, isNamed, numberOf, totalsIn, setOf, leads, waterFrom, deepCountIn, deepCodesIn, listedOf, sameRecord}
 use Rattle.hydraulics.specs.Hydraulics.{inflowOf}
 use Rattle.read_head_loss.specs.HeadLoss.{waterInto, lossesAt, lossAnswerOf, isScreenedLayer}
-use Rattle.ledger.specs.Calls.{drawdown, budget, loss, flow, deep, same, sameAs, headLoss, Call, step, read, Reply, stepped, amount, balance, listed, compared, losses}
+use Rattle.read_limiting.specs.Limiting.{limitingIn}
+use Rattle.ledger.specs.Calls.{drawdown, budget, loss, flow, deep, same, sameAs, headLoss, limiting, Call, step, read, Reply, stepped, amount, balance, listed, compared, losses, limited}
 use Rattle.ledger.specs.Ledger.{afterCall, Accepted, acceptedFrom, greatest}
 
 module _ (scenario : Site) (steps : List Accepted) (s : State) where
@@ -62,6 +63,8 @@ module _ (scenario : Site) (steps : List Accepted) (s : State) where
   Tells (read (headLoss layer dt)) reply =
       reply ≡ losses (lossAnswerOf (first ((not (isScreenedLayer G layer), 12) ∷ (lengthOut dt, 7) ∷ (unstable N dt, 8) ∷ []))
       (lossesAt scenario (λ i. inflowOf (waterInto G (s .losses) dt i) dt) (layer - 1)))
+  -- what would hold back a step not taken (document 02, N12), by the ledger's own judgement of it; never refused
+  Tells (read (limiting rate dt)) reply = reply ≡ limited (limitingIn G (s .losses) rate dt (refusal N s rate dt))
 
 -- what the replies to a list of calls are, from the state s on, after these accepted steps
 pub data Told (scenario : Site) : List Accepted → State → List Call → List Reply → Type 0 where

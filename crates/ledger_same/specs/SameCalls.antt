@@ -4,7 +4,7 @@ use mathlib.Core.List.{List, [], _∷_}
 use Prim.Native.Nat.{ℕ}
 use Rattle.record.specs.declared.Record.{Record}
 use Rattle.readings.specs.declared.Place.{Place}
-use Rattle.ledger.specs.Calls.{drawdown, budget, loss, flow, deep, same, sameAs, headLoss, Call, step, read, left}
+use Rattle.ledger.specs.Calls.{drawdown, budget, loss, flow, deep, same, sameAs, headLoss, limiting, Call, step, read, left}
 
 -- two calls of one kind with equal arguments: numbers, places, the bytes of a set, a lent list as it is before the call, another record
 pub data SameCall : Call → Call → Type 0 where
@@ -17,6 +17,7 @@ pub data SameCall : Call → Call → Type 0 where
   same-same : {q : Record} → SameCall (read (same q)) (read (same q))
   same-sameAs : {q : Record} → SameCall (read (sameAs q)) (read (sameAs q))
   same-headLoss : {layer dt : ℕ} → SameCall (read (headLoss layer dt)) (read (headLoss layer dt))
+  same-limiting : {rate dt : ℕ} → SameCall (read (limiting rate dt)) (read (limiting rate dt))
 
 pub data SameCalls : List Call → List Call → Type 0 where
   none : SameCalls [] []

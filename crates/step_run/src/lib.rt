@@ -39,7 +39,7 @@ fn slots_built(steps: u64, layers: usize) -> usize
 }
 
 // The terms of a record's run.
-fn terms_of(record: Record, rate: u64, dt: u64) -> Terms
+pub fn terms_of(record: Record, rate: u64, dt: u64) -> Terms
     ensures { λ r. ⌜ r ≡ termsOf «record» (r .«well_multiplier») rate dt ⌝ }
     ensures { λ r. ⌜ Stands (r .«well_multiplier») (r .«well_storage») ⌝ }
 {

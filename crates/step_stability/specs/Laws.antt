@@ -1,6 +1,7 @@
 -- 8 by slot is the network's by place: laws only, nothing to believe.
 --     steady-asks        no slot of a valid record's C is over the limit
 --     steady-valid       8 of a valid record
+--     cell-c, well-c     the sums of C by slot are those of the places; cell-s: so is S
 use mathlib.Core.Path.{_≡_, refl, sym, ap, ap₂, subst, _∙_}
 use mathlib.Core.Bool.{Bool, true, false, _||_}
 use mathlib.Core.Logic.{⊎-elim}
@@ -111,15 +112,15 @@ module _ (r : Record) (counts : countsHold (r .site) ≡ true) (unused : coeffic
         go zero e q = rw (eq-eqb (k % 50) 0 q, layer) (screened-c i hi)
         go (suc b) e q = rw (ne-eqb (k % 50) 0 (omega arith)) (ap (λ n. getD (r .horizontal) n 0) (omega arith))
 
-    cell-c : conductanceSum (networkOf (gridOf r)) (place (gridOf r) i (suc j)) ≡ cellSum (r .screen) (r .horizontal) (r .vertical) k
+    pub cell-c : conductanceSum (networkOf (gridOf r)) (place (gridOf r) i (suc j)) ≡ cellSum (r .screen) (r .horizontal) (r .vertical) k
     unfolding cellSum gridOf acrossIn
     cell-c = conductance-cell (gridOf r) i j hi hj ∙ ap₂ _+_ (ap₂ _+_ (ap₂ _+_ refl inward-c) lower-c) upper-c
 
-    cell-s : storageAt (networkOf (gridOf r)) (place (gridOf r) i (suc j)) ≡ getD (r .storages) k 0
+    pub cell-s : storageAt (networkOf (gridOf r)) (place (gridOf r) i (suc j)) ≡ getD (r .storages) k 0
     unfolding storageAt networkOf gridOf
     cell-s = getD-one (gridOf r) (r .«well_storage») (gridOf r .storage) 0 i j hi hj
 
-  well-c : conductanceSum (networkOf (gridOf r)) 0 ≡ wellSum (r .site .layers) (r .screen)
+  pub well-c : conductanceSum (networkOf (gridOf r)) 0 ≡ wellSum (r .site .layers) (r .screen)
   unfolding wellSum gridOf layersOf acrossIn
   well-c = conductance-well (gridOf r) ∙ sumℕ-ext (range 0 (r .site .layers)) (λ i m. screened-c i (range-below (r .site .layers) m))
 

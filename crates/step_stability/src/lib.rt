@@ -39,7 +39,7 @@ fn upper(vertical: &[u64; CELL_PLACES], k: usize) -> u64
 }
 
 // The sum of C of the faces of the cell in slot k, unreduced (between layers 1 and 2 at s = 0, N6): outward, inward, with the layer below and with the layer above.
-fn cell_sum<'a>(
+pub fn cell_sum<'a>(
     screen: &'a [u64; LAYER_PLACES],
     horizontal: &'a [u64; CELL_PLACES],
     vertical: &'a [u64; CELL_PLACES],
@@ -52,7 +52,7 @@ fn cell_sum<'a>(
 }
 
 // The sum of C of the well's faces, unreduced.
-fn well_sum(layers: usize, screen: &[u64; LAYER_PLACES]) -> u64
+pub fn well_sum(layers: usize, screen: &[u64; LAYER_PLACES]) -> u64
     requires { ⌜ (layers ≤ 20) × ((i : ℕ) → i < 20 → getD (now screen) i 0 ≤ conductanceLimit) ⌝ }
     ensures { λ r. ⌜ r ≡ wellSum layers (now (screen .entry)) ⌝ }
 {

@@ -4,10 +4,12 @@
 //! 2×A_1×Kv_2/b_2, rounded down; that of R_0 to 5001 has the largest grid's.
 //! Changed losses have a mark with them (document 02, N1) that is no less than the drawdowns that bore K then has, so that a change is
 //! refused for what it is there for; one that is less is in the group `marks`, and where no word holds the drawdown.
-//! Each changed record is compared with the unchanged one and with the one before it in its group (document 02, N10).
+//! Of each record it is said what holds the step back, and one of the greatest length (document 02, N12), and each changed one is compared with
+//! the unchanged one and with the one before it in its group (N10).
 
 use crate::checksum::record_checksum;
 use crate::grid::{cell, slot, Place};
+use crate::limits;
 use crate::listing;
 use crate::readings;
 use crate::record::{self, Record};
@@ -33,13 +35,13 @@ pub fn write(text: &[u8], out: &mut impl Write) -> io::Result<()> {
         // What a refused step leaves is the record to change.
         let _ = listing::run_entry(&mut record, entry);
     }
-    write_step("unchanged", record.clone(), out)?;
+    write_step("unchanged", &record, out)?;
     for (name, changes) in GROUPS {
         let mut last = record.clone();
         for (above, change) in changes.iter().enumerate() {
             let mut changed = record.clone();
             change(&mut changed);
-            write_step(&format!("{name} {}", above + 1), changed.clone(), out)?;
+            write_step(&format!("{name} {}", above + 1), &changed, out)?;
             writeln!(out, "same {} {}", report::both_ways(&record, &changed), report::both_ways(&last, &changed))?;
             if name == "waters" {
                 let equal = |other| report::value(same_drawdowns(other, &changed).map(u8::from));
@@ -61,13 +63,17 @@ fn same_drawdowns(one: &Record, other: &Record) -> Result<bool, Refusal> {
     Ok(counts(one) == counts(other) && [Place::Well, cell(1, 1), cell(2, 1)].into_iter().all(equal))
 }
 
-/// `NAME taken CHECKSUM`, or `NAME refused NUMBER` with the record's checksum unless the number is 14.
-fn write_step(name: &str, mut record: Record, out: &mut impl Write) -> io::Result<()> {
-    match step::step(&mut record, RATE, LENGTH) {
-        Ok(()) => writeln!(out, "{name} taken {}", record_checksum(&record)),
+/// `NAME taken CHECKSUM`, or `NAME refused NUMBER` with the record's checksum unless the number is 14; then what holds that step back, and one of
+/// the greatest length (document 02, N12).
+fn write_step(name: &str, record: &Record, out: &mut impl Write) -> io::Result<()> {
+    let mut after = record.clone();
+    match step::step(&mut after, RATE, LENGTH) {
+        Ok(()) => writeln!(out, "{name} taken {}", record_checksum(&after)),
         Err(Refusal::Record) => writeln!(out, "{name} refused {}", Refusal::Record),
-        Err(refusal) => writeln!(out, "{name} refused {refusal} {}", record_checksum(&record)),
-    }
+        Err(refusal) => writeln!(out, "{name} refused {refusal} {}", record_checksum(&after)),
+    }?;
+    report::write_limiting(record, RATE, LENGTH, out)?;
+    report::write_limiting(record, RATE, *limits::STEP_LENGTH.end(), out)
 }
 
 const GROUPS: [(&str, &[Change]); 15] = [

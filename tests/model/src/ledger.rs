@@ -102,23 +102,29 @@ impl Ledger {
         if !self.stable(length) {
             return Err(Refusal::Stability);
         }
-        let volume = i128::from(rate) * i128::from(length);
-        let mut next = self.clone();
-        next.pumped += volume;
-        next.time += i128::from(length);
+        let next = self.worked(rate, length);
         let most = i128::from(limits::TOTAL);
         if next.pumped > most || next.time > most {
             return Err(Refusal::Total);
         }
+        next.judge_drawdowns()?;
+        *self = next;
+        Ok(())
+    }
+
+    /// The ledger after a step, no condition judged but 7 and 8, which allow it.
+    pub fn worked(&self, rate: u64, length: u64) -> Ledger {
+        let volume = i128::from(rate) * i128::from(length);
+        let mut next = self.clone();
+        next.pumped += volume;
+        next.time += i128::from(length);
         for index in 0..self.faces.len() {
             let flow = self.flow(&self.faces[index], length);
             next.cross(index, flow);
         }
         next.well().loss += volume;
         next.deepest_well = next.deepest_well.max(next.drawdown(Place::Well));
-        next.judge_drawdowns()?;
-        *self = next;
-        Ok(())
+        next
     }
 
     /// Whether 8 allows a length: Δt × (sum of C of a place's faces) at most 10^6 × S, at every place.

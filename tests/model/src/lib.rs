@@ -9,6 +9,7 @@ pub mod geometry;
 pub mod grid;
 pub mod head_loss;
 pub mod ledger;
+pub mod limiting;
 pub mod limits;
 pub mod listing;
 pub mod logarithm;

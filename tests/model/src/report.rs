@@ -3,6 +3,8 @@
 use crate::checksum::{byte_checksum, record_checksum};
 use crate::grid::{cell, slot, Place};
 use crate::head_loss;
+use crate::limiting::{limiting, Limiting};
+use crate::limits;
 use crate::listing;
 use crate::readings;
 use crate::record::{self, Record};
@@ -100,7 +102,10 @@ pub fn write_entries(text: &[u8], out: &mut impl Write) -> io::Result<()> {
     Ok(())
 }
 
-/// Runs the entries and writes every reading at the start (as entry 0, for a length of 1 µs) and after each entry.
+/// What is read at the start, before any entry: for a rate of 0 and a length of 1 µs.
+const AT_START: Entry = Entry { rate: 0, length: 1, repeats: 0 };
+
+/// Runs the entries and writes every reading at the start (as entry 0) and after each entry.
 pub fn write_readings(text: &[u8], out: &mut impl Write) -> io::Result<()> {
     for_each_state(text, out, write_refused_readings, write_state, write_whole)
 }
@@ -139,12 +144,12 @@ pub fn write_runs(text: &[u8], out: &mut impl Write) -> io::Result<()> {
 }
 
 /// Runs the entries and hands over the heading of each state and its lines: `write_first` makes those that only the
-/// start has, `write_state` those of a record, with the one before, the start and a length.
+/// start has, `write_state` those of a record, with the one before, the start and the entry.
 fn for_each_state<W: Write>(
     text: &[u8],
     out: &mut W,
     write_first: impl Fn(&Record, &mut Vec<u8>) -> io::Result<()>,
-    write_state: impl Fn(&Record, &Record, &Record, u64, &mut Vec<u8>) -> io::Result<()>,
+    write_state: impl Fn(&Record, &Record, &Record, Entry, &mut Vec<u8>) -> io::Result<()>,
     write: impl Fn(&str, &[u8], &mut W) -> io::Result<()>,
 ) -> io::Result<()> {
     let (outcome, start) = record::start(text);
@@ -153,7 +158,7 @@ fn for_each_state<W: Write>(
     }
     let mut body = Vec::new();
     write_first(&start, &mut body)?;
-    write_state(&start, &start, &start, 1, &mut body)?;
+    write_state(&start, &start, &start, AT_START, &mut body)?;
     write("after 0 taken", &body, out)?;
     let mut record = start.clone();
     let pumping = text::read(text).expect("start has accepted this text").pumping;
@@ -161,14 +166,14 @@ fn for_each_state<W: Write>(
         let before = record.clone();
         let outcome = listing::run_entry(&mut record, entry);
         body.clear();
-        write_state(&record, &before, &start, entry.length, &mut body)?;
+        write_state(&record, &before, &start, entry, &mut body)?;
         write(&format!("after {} {}", above + 1, value(outcome.map(|()| "taken"))), &body, out)?;
     }
     Ok(())
 }
 
-/// Every reading of a record in whole numbers; flows for a length (µs) not taken.
-fn write_state(record: &Record, before: &Record, start: &Record, length: u64, out: &mut Vec<u8>) -> io::Result<()> {
+/// Every reading of a record in whole numbers; those of a step not taken for the entry's rate and length.
+fn write_state(record: &Record, before: &Record, start: &Record, entry: Entry, out: &mut Vec<u8>) -> io::Result<()> {
     writeln!(out, "time {}", record.time)?;
     let budget = readings::budget(record).expect("a run from start keeps an allowed record");
     let figures = [budget.well_loss, budget.cell_loss, budget.inflow, budget.mark];
@@ -180,19 +185,54 @@ fn write_state(record: &Record, before: &Record, start: &Record, length: u64, ou
     for other in [record, before, start] {
         writeln!(out, "same {}", both_ways(record, other))?;
     }
-    write_flows(record, length, out)?;
-    for length in [0, 1, length, 1_000_000_000, 1_000_000_001] {
+    write_flows(record, entry.length, out)?;
+    for length in [0, 1, entry.length, 1_000_000_000, 1_000_000_001] {
         let layer = screened_layers(record)[0];
         let flow = readings::flow(record, cell(layer, 1), Place::Well, length);
         writeln!(out, "length {length} {}", value(flow))?;
     }
-    Ok(())
+    write_limiting_lines(record, entry.rate, entry.length, out)
+}
+
+/// What would hold back a step of a rate and a length; of that rate and the greatest length, and where 8 refuses that, of the longest length
+/// that 8 allows and 1 µs, of that length, and of it at the greatest rate; and of the greatest rate and the length.
+fn write_limiting_lines(record: &Record, rate: u64, length: u64, out: &mut impl Write) -> io::Result<()> {
+    let greatest = *limits::STEP_LENGTH.end();
+    write_limiting(record, rate, length, out)?;
+    write_limiting(record, rate, greatest, out)?;
+    if let Ok(Limiting::TooLong(_, longest)) = limiting(record, rate, greatest) {
+        write_limiting(record, rate, longest + 1, out)?;
+        write_limiting(record, rate, longest, out)?;
+        write_limiting(record, limits::RATE, longest, out)?;
+    }
+    write_limiting(record, limits::RATE, length, out)
+}
+
+/// `limiting RATE LENGTH`, then `nothing`, `8 LAYER COLUMN LONGEST`, `10 LAYER COLUMN`, `11 LAYER COLUMN` or `refused 14`; the well has layer
+/// and column 0.
+pub fn write_limiting(record: &Record, rate: u64, length: u64, out: &mut impl Write) -> io::Result<()> {
+    let figures = |held: Limiting| match held {
+        Limiting::TooLong(place, longest) => format!("{} {} {longest}", Refusal::Stability, place_numbers(place)),
+        Limiting::PastIntake(place) => format!("{} {}", Refusal::Intake, place_numbers(place)),
+        Limiting::PastBottom(place) => format!("{} {}", Refusal::WaterTable, place_numbers(place)),
+        Limiting::Nothing => "nothing".to_string(),
+    };
+    writeln!(out, "limiting {rate} {length} {}", value(limiting(record, rate, length).map(figures)))
+}
+
+/// Layer and column of a place, 0 and 0 for the well.
+fn place_numbers(place: Place) -> String {
+    match place {
+        Place::Well => "0 0".to_string(),
+        Place::Cell { layer, column } => format!("{layer} {column}"),
+    }
 }
 
 /// Runs the entries and writes the head losses of every screened layer at the start, for a length of 1 µs, and after each
 /// entry for its length.
 pub fn write_heads(text: &[u8], out: &mut impl Write) -> io::Result<()> {
-    let write_state = |record: &Record, _: &Record, _: &Record, length, body: &mut Vec<u8>| {
+    let write_state = |record: &Record, _: &Record, _: &Record, entry: Entry, body: &mut Vec<u8>| {
+        let length = entry.length;
         for layer in screened_layers(record) {
             writeln!(body, "head {length} {layer} {}", head_figures(record, layer as u64, length))?;
         }
@@ -334,7 +374,7 @@ fn write_flows(record: &Record, length: u64, out: &mut impl Write) -> io::Result
     Ok(())
 }
 
-/// Readings that 12 refuses, before any length is judged.
+/// Readings that 12 refuses, before any length is judged, and steps that 7 refuses, of which what holds a step back is not asked.
 fn write_refused_readings(record: &Record, out: &mut Vec<u8>) -> io::Result<()> {
     let (layers, columns) = (record.layers, record.columns);
     let at = |layer, column| Place::Cell { layer, column };
@@ -357,6 +397,9 @@ fn write_refused_readings(record: &Record, out: &mut Vec<u8>) -> io::Result<()> 
     ];
     for (from, to) in pairs {
         writeln!(out, "no face {}", value(readings::flow(record, from, to, 0)))?;
+    }
+    for (rate, length) in [(10_000_001, 1), (0, 0), (0, 1_000_000_001), (u64::MAX, u64::MAX)] {
+        write_limiting(record, rate, length, out)?;
     }
     Ok(())
 }

@@ -2,12 +2,13 @@
 
 use crate::coefficients;
 use crate::geometry;
-use crate::grid::slot;
+use crate::grid::{cell, slot, Place};
 use crate::limits::{self, CELLS};
 use crate::mistake::Mistake;
 use crate::record::Record;
 use crate::refusal::Refusal;
 use crate::site::Site;
+use std::iter;
 
 /// What C (10^-12 m²/s) × D (µm) × Δt (µs) is divided by to give nl.
 const FLOW_DIVISOR: i128 = 1_000_000_000_000;
@@ -32,9 +33,7 @@ pub fn step_with(record: &mut Record, rate: u64, length: u64, mistake: Option<Mi
     if record.pumped + volume > limits::TOTAL || record.time + length > limits::TOTAL {
         return Err(Refusal::Total);
     }
-    let mut sweep = Sweep::new(record, length, mistake);
-    sweep.all_faces();
-    sweep.loss[WELL] += i128::from(volume);
+    let sweep = Sweep::worked(record, rate, length, mistake);
     let (outcome, mark) = (sweep.judge(), sweep.mark());
     let (loss, inflow) = (sweep.loss, sweep.inflow());
     if mistake == Some(Mistake::MarkOfRefused) {
@@ -57,20 +56,37 @@ pub fn judge_length(length: u64) -> Result<(), Refusal> {
     }
 }
 
-/// Refusal 8: at some place Δt × (sum of C of its faces) > 10^6 × S.
+/// Refusal 8: a length (µs) that some place does not bear.
 pub fn judge_stability(record: &Record, length: u64, mistake: Option<Mistake>) -> Result<(), Refusal> {
-    let too_long = |sum: u128, storage: u64| u128::from(length) * sum > 1_000_000 * u128::from(storage);
-    let well: u128 = record.well_c.iter().map(|&c| u128::from(c)).sum();
-    if too_long(well, record.well_s) {
-        return Err(Refusal::Stability);
+    if places(record).all(|place| bears(record, place, length, mistake)) {
+        Ok(())
+    } else {
+        Err(Refusal::Stability)
     }
-    for (layer, column) in record.stored_cells() {
-        let vertical = mistake != Some(Mistake::NoVerticalStability);
-        if too_long(conductance_sum(record, layer, column, vertical), record.cell_s[slot(layer, column)]) {
-            return Err(Refusal::Stability);
+}
+
+/// The places of a record: the well, then the stored cells by layer and column.
+pub fn places(record: &Record) -> impl Iterator<Item = Place> {
+    iter::once(Place::Well).chain(record.stored_cells().map(|(layer, column)| cell(layer, column)))
+}
+
+/// What 8 asks of one place: Δt × (sum of C of its faces) at most 10^6 × S.
+pub fn bears(record: &Record, place: Place, length: u64, mistake: Option<Mistake>) -> bool {
+    let (sum, storage) = match place {
+        Place::Well => (record.well_c.iter().map(|&c| u128::from(c)).sum(), record.well_s),
+        Place::Cell { layer, column } => {
+            let (layer, column) = (layer as usize, column as usize);
+            let vertical = mistake != Some(Mistake::NoVerticalStability);
+            (conductance_sum(record, layer, column, vertical), record.cell_s[slot(layer, column)])
         }
-    }
-    Ok(())
+    };
+    u128::from(length) * sum <= 1_000_000 * u128::from(storage)
+}
+
+/// D of the stored cells of layer 1, µm, from column 1 on, after a step that 14, 7, 8 and 9 let pass, whatever 10 and 11 say of it.
+pub fn table_after(record: &Record, rate: u64, length: u64) -> Vec<i128> {
+    let sweep = Sweep::worked(record, rate, length, None);
+    (1..record.columns as usize).map(|column| sweep.cell_after(slot(1, column))).collect()
 }
 
 /// Sum of the C of a stored cell's faces as the record keeps them: inward, outward, above, below.
@@ -133,6 +149,14 @@ struct Sweep<'a> {
 }
 
 impl Sweep<'_> {
+    /// The step of a rate and a length worked whole.
+    fn worked(record: &Record, rate: u64, length: u64, mistake: Option<Mistake>) -> Sweep<'_> {
+        let mut sweep = Sweep::new(record, length, mistake);
+        sweep.all_faces();
+        sweep.loss[WELL] += i128::from(rate) * i128::from(length);
+        sweep
+    }
+
     fn new(record: &Record, length: u64, mistake: Option<Mistake>) -> Sweep<'_> {
         let site = record.site();
         let mut sweep = Sweep { record, site, length, mistake, drawdown: [0; CELLS + 1], loss: [0; CELLS + 1] };
@@ -245,14 +269,18 @@ impl Sweep<'_> {
         drawdown(self.loss[WELL], i128::from(self.record.well_s))
     }
 
+    /// D after the step of the cell in a slot, µm.
+    fn cell_after(&self, at: usize) -> i128 {
+        drawdown(self.loss[at], i128::from(self.record.cell_s[at]))
+    }
+
     /// Refusals 10 and 11 on the drawdowns after the step.
     fn judge(&self) -> Result<(), Refusal> {
         if self.well_after() > 1000 * i128::from(self.record.intake_depth) {
             return Err(Refusal::Intake);
         }
         let bound = 1000 * i128::from(self.record.thickness[0]);
-        let passes = |at: usize| drawdown(self.loss[at], i128::from(self.record.cell_s[at])) > bound;
-        if (1..self.record.columns as usize).any(|column| passes(slot(1, column))) {
+        if (1..self.record.columns as usize).any(|column| self.cell_after(slot(1, column)) > bound) {
             return Err(Refusal::WaterTable);
         }
         Ok(())

@@ -1,6 +1,6 @@
 //! A scenario in the making: sections whose counts follow their lengths.
 
-use crate::limits;
+use crate::limiting::longest_passing;
 use crate::record::{self, Record};
 use crate::step;
 
@@ -64,15 +64,7 @@ impl Draft {
     /// The longest step (µs) that 7 and 8 allow; 0 if none.
     pub fn longest_step(&self) -> u64 {
         let record = self.start().expect("the draft is accepted");
-        let (mut allowed, mut refused) = (0, limits::STEP_LENGTH.end() + 1);
-        while refused - allowed > 1 {
-            let middle = (allowed + refused) / 2;
-            match step::judge_stability(&record, middle, None) {
-                Ok(()) => allowed = middle,
-                Err(_) => refused = middle,
-            }
-        }
-        allowed
+        longest_passing(|length| step::judge_stability(&record, length, None).is_ok())
     }
 }
 

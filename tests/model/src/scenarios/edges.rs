@@ -1,6 +1,6 @@
 //! The catalogue of edges: every limit of document 01, as document 02 changes it, that a text can reach,
 //! at its last accepted and first refused value; grids in which many drawdowns are equal; water tables drawn down far; wells that rise
-//! under their deepest mark; and long rests.
+//! under their deepest mark; long rests; and steps that one place or another holds back.
 
 use super::damage::line_replaced;
 use super::draft::{text_of, Draft};
@@ -33,6 +33,7 @@ pub fn catalogue() -> Vec<Case> {
     edges.water_tables();
     edges.marks();
     edges.rests();
+    edges.held_back();
     edges.0
 }
 
@@ -497,6 +498,131 @@ impl Edges {
         });
         self.edit("rest-stands-still", &slow(), 0, |_| ());
     }
+
+    /// What holds a step back (document 02, N12): for 8 places that allow the same number of whole µs, one place that allows less than all
+    /// others, limits of 0, at the greatest length and over a word, and none; then the well for 10 where 11 forbids the step too, and for 11
+    /// water tables that are deepest in column 2, in column 1 and in both.
+    fn held_back(&mut self) {
+        for (name, draft) in [
+            ("limit-ties-row", tied(1_490_000, 1000)),
+            ("limit-ties-well", tied(1_490_000, 250_000)),
+            ("limit-well", tied(1_490_000, 400_000)),
+            ("limit-in-the-middle", tied(1_600_000, 1000)),
+            ("limit-last-cell", near_the_end()),
+            ("limit-over-a-word", past_a_word()),
+        ] {
+            self.edit(name, &at_the_longest(draft, 100, 3), 0, |_| ());
+        }
+        for (name, draft) in
+            [("limit-longest-0", tied(16_000_000, 1000)), ("limit-longest-0-well", tied(16_000_000, 1_400_000))]
+        {
+            self.edit(name, &draft, 0, |draft| draft.pumping = vec![[1000, 1, 1], [0, 1, 1]]);
+        }
+        for (name, conductivity, water_area) in
+            [("limit-greatest", 200_101, 1_144_418), ("limit-under-greatest", 200_450, 1_146_414)]
+        {
+            let draft = at_the_well(conductivity, water_area);
+            self.edit(name, &draft, 0, |draft| draft.pumping = vec![[1, 1_000_000_000, 2], [0, 1_000_000_000, 2]]);
+        }
+        self.edit("limit-no-flow", &tied(0, 0), 0, |draft| {
+            for layer in &mut draft.layers {
+                layer[HORIZONTAL] = 0;
+            }
+            draft.pumping = vec![[0, 1_000_000_000, 2], [1, 1_000_000, 1], [30, 1_000_000, 1]];
+        });
+        self.edit("limit-intake-and-bottom", &thin_top(), 0, |draft| {
+            let longest = draft.pumping[0][LENGTH];
+            draft.pumping.extend([[1000, longest, 1], [10_000_000, longest, 1]]);
+        });
+        for (name, draft) in [
+            ("limit-outer-table", outer_table()),
+            ("limit-outer-table-at-rest", outer_table_at_rest()),
+            ("limit-equal-tables", equal_tables()),
+            ("limit-outer-overtakes", outer_overtakes()),
+            ("limit-inner-overtakes", inner_overtakes()),
+            ("limit-both-tables", both_tables()),
+        ] {
+            self.edit(name, &draft, 0, |_| ());
+        }
+    }
+}
+
+/// Layers 2 to 4 without vertical flow, in which every cell allows a step of 3 µs and a fraction, the least of these being that of layer 3, column 2,
+/// where its Kh is 1,490,000; more lets it allow less than 3. The Kh of layer 5, which is screened, decides what the well allows.
+fn tied(third: u64, screened: u64) -> Draft {
+    let fast = |conductivity| [1000, 0, conductivity, 0, 1000];
+    let (top, last) = ([30_000, 0, 1000, 0, 200_000], [1000, 1, screened, 0, 500_000]);
+    let layers = vec![top, fast(1_400_000), fast(third), fast(1_300_000), last];
+    pumped(layers, (0..6).map(|column| 5062 + 100 * column).collect(), [5000, 1, 29_000, 20_000], &[])
+}
+
+/// A last column so narrow that the last stored one allows the shortest step, in the last layer, which is the fastest.
+fn near_the_end() -> Draft {
+    let mut draft = tied(1000, 0);
+    draft.layers.truncate(4);
+    draft.layers[1] = [1000, 1, 1000, 0, 500_000];
+    draft.layers[3][HORIZONTAL] = 1_400_000;
+    draft.radii[5] = draft.radii[4] + 10;
+    draft
+}
+
+/// A layer 1 whose cell allows 2^64 + 21323384 µs, over a layer 3 that allows 495650000.
+fn past_a_word() -> Draft {
+    let layers = vec![[1, 0, 1, 0, 44_657_387], [10, 0, 0, 0, 1], [1, 1, 1, 0, 3000]];
+    pumped(layers, vec![1141, 2282], [500, 1, 10, 20_000], &[])
+}
+
+/// A well that allows about the greatest length, beside a cell that allows more.
+fn at_the_well(conductivity: u64, water_area: u64) -> Draft {
+    let layers = vec![[30_000, 0, 0, 0, 200_000], [2000, 1, conductivity, 0, 1_000_000]];
+    pumped(layers, vec![85_000, 400_000], [5000, water_area, 29_000, 20_000], &[])
+}
+
+/// A layer 1 of 1 mm that yields so little in steps so short that in column 1 less than a nl would cross, and nothing does; column 2, of five
+/// times the area, is drawn down to the bottom.
+fn outer_table() -> Draft {
+    let layers = vec![[1, 0, 0, 1, 1], [1000, 0, 100_000, 200_000, 100_000], [1000, 1, 100_000, 200_000, 100_000]];
+    with_entries(layers, vec![300, 700, 1500], [100, 300, 1000, 20_000], &[[6, 2000, 400], [6, 2000, 400]])
+}
+
+/// A narrow column 1, which comes up first at rest, while the water table in column 2 falls on to the bottom.
+fn outer_table_at_rest() -> Draft {
+    let layers = vec![[3, 0, 1000, 217, 10], [500, 0, 1000, 10_000, 10_000], [500, 1, 100_000, 10_000, 1_000_000]];
+    with_entries(layers, vec![110, 200, 600], [100, 300, 502, 20_000], &[[1766, 455, 203], [0, 455, 50]])
+}
+
+/// Columns 1 and 2 of the same area, so small that 1 nl is 663 µm of the water table: two in both bring it past the bottom in one step.
+fn equal_tables() -> Draft {
+    let layers = vec![[1, 0, 0, 10_000, 1], [100, 0, 1000, 3000, 100_000], [1000, 1, 10_000, 1_000_000, 1_000_000]];
+    let entries = [[25, 1364, 29], [0, 1364, 11], [0, 4549, 1]];
+    with_entries(layers, vec![26, 34, 500], [14, 10, 100, 20_000], &entries)
+}
+
+/// The water table of column 1 is the deeper one at the start of the last step; in it less than a nl would cross there, and that of column 2 is
+/// deeper after it.
+fn outer_overtakes() -> Draft {
+    let layers = vec![[1, 0, 0, 10_000, 2], [200, 0, 0, 3000, 1_000_000], [100, 1, 3000, 10_000, 1_000_000]];
+    let entries = [[5, 16_123, 20], [0, 16_123, 92], [0, 15_115, 1]];
+    with_entries(layers, vec![26, 70, 500], [14, 100, 200, 20_000], &entries)
+}
+
+/// The other way round: the last step is longer than those before, in most of which less than a nl would have crossed in column 1.
+fn inner_overtakes() -> Draft {
+    let layers = vec![[2, 0, 0, 10_000, 1], [100, 0, 1000, 3000, 1_000_000], [1000, 1, 1000, 1_000_000, 100_000]];
+    let entries = [[934, 2422, 13], [0, 2422, 67], [0, 6056, 1]];
+    with_entries(layers, vec![26, 70, 500], [14, 300, 101, 20_000], &entries)
+}
+
+/// A last step that brings the water tables of both columns past the bottom, that of column 2 deeper.
+fn both_tables() -> Draft {
+    let layers = vec![[1, 0, 0, 1_000_000, 1], [100, 0, 1000, 1000, 100_000], [10, 1, 1000, 10_000, 1_000_000]];
+    let entries = [[716, 5273, 9], [0, 5273, 81], [0, 26_365, 1]];
+    with_entries(layers, vec![40, 100, 900], [28, 1000, 100, 20_000], &entries)
+}
+
+/// A draft without screen losses and with entries of a rate, a length and repeats each.
+fn with_entries(layers: Vec<[u64; 5]>, radii: Vec<u64>, well: [u64; 4], entries: &[[u64; 3]]) -> Draft {
+    Draft { layers, radii, well: well.to_vec(), screen_losses: vec![], pumping: entries.to_vec() }
 }
 
 /// A draft with steps of a rate at the longest length that 8 allows, and one µs above it, and a rest.

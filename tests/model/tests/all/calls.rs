@@ -4,6 +4,7 @@ use crate::head_losses;
 use reference_model::grid::{cell, slot, Place};
 use reference_model::head_loss::{head_loss, HeadLoss};
 use reference_model::ledger::{Face, Ledger};
+use reference_model::limiting::{self, Limiting};
 use reference_model::limits;
 use reference_model::mistake::Mistake;
 use reference_model::random::Random;
@@ -13,6 +14,7 @@ use reference_model::refusal::Refusal;
 use reference_model::site::Site;
 use reference_model::step::step_with;
 use reference_model::text::Scenario;
+use std::cmp::Reverse;
 use std::collections::{BTreeMap, BTreeSet};
 
 use crate::bore_k::equal;
@@ -27,6 +29,7 @@ pub enum Call {
     DeepCells { threshold: u64, list: Vec<u64> },
     Same { other: Box<Record>, other_first: bool },
     HeadLoss { layer: u64, length: u64 },
+    Limiting { rate: u64, length: u64 },
 }
 
 /// Draws calls that fit a scenario, and some that do not.
@@ -39,7 +42,7 @@ pub struct Drawer<'a> {
 
 impl Drawer<'_> {
     pub fn call(&mut self, record: &Record, start: &Record) -> Call {
-        match self.random.between(0, 15) {
+        match self.random.between(0, 16) {
             0 => Call::Drawdown(self.place()),
             1 => Call::Budget,
             2 => Call::StorageLoss(self.set()),
@@ -53,6 +56,10 @@ impl Drawer<'_> {
                 let layers = self.scenario.site.layers.len() as u64;
                 let layer = self.random.between(0, layers + 1);
                 Call::HeadLoss { layer, length: self.length() }
+            }
+            7 => {
+                let (rate, length) = self.step_not_taken();
+                Call::Limiting { rate, length }
             }
             _ => Call::Step { rate: self.rate(), length: self.length() },
         }
@@ -80,6 +87,13 @@ impl Drawer<'_> {
             2..=6 => shorter,
             _ => longest,
         }
+    }
+
+    /// Rate and length of a step, more of them too long or past the intake than among those that are taken.
+    pub fn step_not_taken(&mut self) -> (u64, u64) {
+        let (rate, length) = (self.rate(), self.length());
+        let (more, longer) = (self.random.spread(0, limits::RATE), self.longest + self.random.spread(1, 1_000_000));
+        (self.random.one_of(&[rate, rate, more]), self.random.one_of(&[length, length, longer]))
     }
 
     fn place(&mut self) -> Place {
@@ -206,6 +220,10 @@ pub fn make(
             let answer = head_loss(record, layer, length).map(bits);
             equal("head loss", answer, head_losses::expected(ledger, site, layer, length).map(bits))
         }
+        Call::Limiting { rate, length } => {
+            let wanted = Ok(limiting(ledger, rate, length));
+            equal(&format!("limiting {rate} {length}"), limiting::limiting(record, rate, length), wanted)
+        }
     }
 }
 
@@ -217,6 +235,28 @@ pub fn judge_length(ledger: &Ledger, length: u64) -> Result<(), Refusal> {
         Err(Refusal::Stability)
     } else {
         Ok(())
+    }
+}
+
+/// What would hold a step back (document 02, N12) by the ledger: of 8 the least of the quotients 10^6 × S by sum of C, and the first place that
+/// has it; of 11 the first cell of layer 1 that is deepest after the step worked.
+pub fn limiting(ledger: &Ledger, rate: u64, length: u64) -> Limiting {
+    match ledger.clone().step(rate, length) {
+        Err(Refusal::Stability) => {
+            let sums = ledger.conductance_sums();
+            let limited = ledger.places.iter().filter(|(place, _)| sums[place] > 0);
+            let quotients = limited.map(|(&place, stored)| (1_000_000 * stored.storage / sums[&place], place));
+            let (longest, place) = quotients.min().expect("some place has a face");
+            Limiting::TooLong(place, longest as u64)
+        }
+        Err(Refusal::Intake) => Limiting::PastIntake(Place::Well),
+        Err(Refusal::WaterTable) => {
+            let after = ledger.worked(rate, length);
+            let tables = ledger.places.keys().filter(|place| matches!(place, Place::Cell { layer: 1, .. }));
+            let deepest = tables.min_by_key(|&&place| (Reverse(after.drawdown(place)), place));
+            Limiting::PastBottom(*deepest.expect("there is a stored column"))
+        }
+        _ => Limiting::Nothing,
     }
 }
 

@@ -113,7 +113,9 @@ fn changed_records_are_stepped() {
     for line in ["marks 1 taken", "marks 2 refused 14", "marks 5 taken", "marks 6 refused 14", "marks 15 refused 14"] {
         assert!(records.contains(&format!("\n{line}")), "{line}");
     }
-    assert_eq!((records.lines().count(), records.matches("\nmarks ").count()), (1 + 260 + 260 + 27, 32));
+    let limiting = records.matches("\nlimiting ").count();
+    assert_eq!((limiting, records.matches("\nmarks ").count()), (2 * 261, 32));
+    assert_eq!(records.lines().count(), 261 + limiting + 260 + 27);
 }
 
 /// Whether each changed record is the same as bore K as it was, and as the one before it in its group (document 02, N10).
@@ -124,9 +126,9 @@ fn changed_records_are_compared() {
     let after = |name: &str| &lines[lines.iter().position(|line| line.starts_with(name)).expect(name) + 1..];
     // One layer; two, as there were; three: the first and the last of these are refused, on either side.
     let refused = "same refused 14 refused 14 refused 14 refused 14";
-    assert_eq!(after("counts 1 ")[0], refused);
-    assert_eq!(after("counts 2 ")[0], "same 1 1 refused 14 refused 14");
-    assert_eq!(after("counts 3 ")[0], refused);
+    assert_eq!(after("counts 1 ")[2], refused);
+    assert_eq!(after("counts 2 ")[2], "same 1 1 refused 14 refused 14");
+    assert_eq!(after("counts 3 ")[2], refused);
     // Of the waters the first is bore K as it was; none of the others is, nor the same as the one before it, though no drawdown but that of the
     // recovered well, 10 and 11, is another.
     for number in 1..=27 {
@@ -138,7 +140,26 @@ fn changed_records_are_compared() {
             12 => "drawdowns 1 0",
             _ => "drawdowns 1 1",
         };
-        assert_eq!((lines[0], lines[1]), (same, drawdowns), "waters {number}");
+        assert_eq!((lines[2], lines[3]), (same, drawdowns), "waters {number}");
+    }
+}
+
+/// What holds back the step of each changed record, and one of the greatest length (document 02, N12).
+#[test]
+fn changed_records_say_what_holds_a_step_back() {
+    let records = printed(model_on("k-limiting", &["records"], &text_of(&NUMBERS)));
+    let lines: Vec<&str> = records.lines().collect();
+    let after = |name: &str| {
+        let at = lines.iter().position(|line| line.starts_with(name)).expect(name);
+        [lines[at + 1], lines[at + 2]]
+    };
+    let k = ["limiting 1000 500000 nothing", "limiting 1000 1000000000 8 2 1 657001"];
+    let refused = ["limiting 1000 500000 refused 14", "limiting 1000 1000000000 refused 14"];
+    assert_eq!(after("unchanged taken "), k);
+    assert_eq!(after("counts 3 refused 14"), refused);
+    // The pumped total and the time at their limit, which the step would pass; the longer one is refused with 8 before it.
+    for name in ["totals 1 refused 9 ", "totals 4 refused 9 ", "totals 5 refused 9 ", "totals 8 refused 9 "] {
+        assert_eq!(after(name), k, "{name}");
     }
 }
 

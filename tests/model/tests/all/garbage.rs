@@ -2,13 +2,14 @@
 //! and a step on any allowed record is that of a ledger with the record's own coefficients.
 
 use crate::bore_k;
-use crate::calls::check_state;
+use crate::calls::{self, check_state};
 use crate::records::sample;
 use crate::runs::longest_step;
 use reference_model::geometry;
 use reference_model::grid::{cell, slot, Place};
 use reference_model::head_loss::head_loss;
 use reference_model::ledger::{Face, InUse, Ledger, Stored};
+use reference_model::limiting::limiting;
 use reference_model::random::Random;
 use reference_model::readings;
 use reference_model::record::{start, Record};
@@ -123,13 +124,15 @@ fn assert_refused(record: &Record) {
     assert_eq!(readings::same(record, &bore_k::record()), Err(refused));
     assert_eq!(readings::same(&bore_k::record(), record), Err(refused));
     assert_eq!(head_loss(record, u64::MAX, 0), Err(refused));
+    assert_eq!(limiting(record, u64::MAX, 0), Err(refused));
 }
 
-/// A step on an allowed record is the ledger's and leaves an allowed record.
+/// A step on an allowed record is the ledger's and leaves an allowed record, and what holds it back is what the ledger says.
 fn assert_step(record: &Record, rate: u64, length: u64) -> bool {
     assert_eq!(record.fault(), None);
     let mut next = record.clone();
     let mut ledger = ledger_of(record);
+    assert_eq!(limiting(record, rate, length), Ok(calls::limiting(&ledger, rate, length)));
     let outcome = step(&mut next, rate, length);
     assert_eq!(outcome, ledger.step(rate, length));
     assert_eq!(check_state(&next, &ledger), Ok(()));

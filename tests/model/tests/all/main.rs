@@ -6,6 +6,7 @@ mod command;
 mod deep_cells;
 mod garbage;
 mod head_losses;
+mod limiting;
 mod logarithms;
 mod marks;
 mod mistakes;

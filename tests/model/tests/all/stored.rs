@@ -19,11 +19,17 @@ fn seed_and_count() -> (u64, usize) {
     (words[1].parse().unwrap(), words[2].parse().unwrap())
 }
 
+/// The texts of that line.
+pub fn stored_cases() -> Vec<Case> {
+    let (seed, count) = seed_and_count();
+    Scenarios::new(seed).different().take(count).collect()
+}
+
 #[test]
 fn stored_texts_show_every_edge_and_refusal() {
     let (seed, count) = seed_and_count();
     let scenarios = Scenarios::new(seed);
-    let cases: Vec<Case> = scenarios.different().take(count).collect();
+    let cases = stored_cases();
     let texts: BTreeSet<_> = cases.iter().map(|case| &case.text).collect();
     assert_eq!(texts.len(), count, "texts that are equal");
     let edges: Vec<Case> = (0..scenarios.whole()).step_by(2).map(|number| scenarios.case(number)).collect();
@@ -63,9 +69,7 @@ fn wide_columns(text: &[u8]) -> Vec<(&'static str, bool)> {
 
 #[test]
 fn stored_texts_have_wide_columns_in_every_place() {
-    let (seed, count) = seed_and_count();
-    let scenarios = Scenarios::new(seed);
-    let texts = scenarios.different().take(count);
+    let texts = stored_cases().into_iter();
     let wide: Vec<_> = texts.map(|case| wide_columns(&case.text)).filter(|columns| !columns.is_empty()).collect();
     let columns: BTreeSet<_> = wide.iter().flatten().collect();
     let wanted = ["first", "middle", "last"].into_iter().flat_map(|place| [(place, false), (place, true)]);
