@@ -7,6 +7,7 @@ use check_print::print_line_end;
 use check_print::print_number;
 use check_print::print_refusal;
 use check_print::print_refused_scenario;
+use limits::LENGTH_LIMIT;
 use record::Outcome;
 use record::Record;
 use scenario::Pumping;
@@ -40,7 +41,7 @@ fn print_step(rec: Record) {
     }
     print_line_end();
     check_report::print_limiting(rec, RATE, LENGTH);
-    check_report::print_limiting(rec, RATE, 1000000000);
+    check_report::print_limiting(rec, RATE, LENGTH_LIMIT);
 }
 
 // The changes to the scenario's numbers, by group and number.

@@ -6,6 +6,8 @@ use check_print::print_line_end;
 use check_print::print_number;
 use check_print::print_refusal;
 use check_print::size;
+use limits::LENGTH_LIMIT;
+use limits::RATE_LIMIT;
 use read_head_loss::Loss;
 use read_limiting::Limiting;
 use readings::Amount;
@@ -498,7 +500,7 @@ fn longest_in(limit: Limiting) -> u64 {
     if let Limiting::TooLong(_, longest) = limit {
         return longest;
     }
-    1000000000
+    LENGTH_LIMIT
 }
 
 // What would hold back a step of a rate and a length; gives the longest step that 8 allows, or the greatest length.
@@ -515,19 +517,19 @@ pub fn print_limiting(rec: Record, rate: u64, dt: u64) -> u64 {
 // Where 8 is what holds the step of the greatest length back: a step of 1 µs more than the longest that 8 allows, the longest, and that at the
 // greatest rate.
 fn print_longest(rec: Record, rate: u64, longest: u64) {
-    if 1000000000 <= longest {
+    if LENGTH_LIMIT <= longest {
         return;
     }
     print_limiting(rec, rate, longest + 1);
     print_limiting(rec, rate, longest);
-    print_limiting(rec, 10000000, longest);
+    print_limiting(rec, RATE_LIMIT, longest);
 }
 
 fn print_limits(rec: Record, rate: u64, dt: u64) {
     print_limiting(rec, rate, dt);
-    let longest = print_limiting(rec, rate, 1000000000);
+    let longest = print_limiting(rec, rate, LENGTH_LIMIT);
     print_longest(rec, rate, longest);
-    print_limiting(rec, 10000000, dt);
+    print_limiting(rec, RATE_LIMIT, dt);
 }
 
 // ---- everything

@@ -1,6 +1,7 @@
 -- Readings of a record that carries the ledger's state: laws only, nothing to believe.
 --     told-depth, told-budget, ..           each reading answers what the ledger has for it
 --     same-budget, same-loss, same-depth    so where it is given, it gives what the ledger's network and state give
+--     named-place                           what is named is a place
 --     set-inside, set-loss                  the set that bytes give has places only; its storage loss is that of the bytes
 use mathlib.Core.Path.{_≡_, refl, ap, fun-ext, _∙_}
 use mathlib.Core.Bool.{Bool, true, false, cond, not, _&&_, _||_, false≢true}
@@ -22,12 +23,12 @@ use Rattle.network.specs.Network.{Network, State, isPlace, lossAt, lossIn, loss
 use Rattle.network.specs.Network as network
 use Rattle.network.specs.Grid.{Grid, layersOf, storedColumns, placeCount, place, onePerPlace, downRule, acrossFace, downFace, networkOf}
 use Rattle.network.specs.laws.Ends.{Inside}
+use Rattle.network.specs.laws.Places.{place-below}
 use Rattle.site.specs.declared.Site.{Site}
 use Rattle.site.specs.Site.{isScreened}
 use Rattle.record.specs.declared.Record.{Record}
 use Rattle.record.specs.Record.{gridOf, stateOf}
 use Rattle.validity.specs.Validity.{valid}
-use Rattle.step_rules.specs.Step.{stepRefusal}
 use Rattle.coefficients.specs.Coefficients.{scenarioGrid}
 use Rattle.readings.specs.declared.Place.{Place}
 use Rattle.readings.specs.declared.Place.the-variants.{Well, Cell}
@@ -38,6 +39,7 @@ use Rattle.read_head_loss.specs.HeadLoss.{waterInto, lossesAt, lossAnswerOf, is
 use Rattle.read_limiting.specs.declared.Limiting.{Limiting}
 use Rattle.read_limiting.specs.Limiting.{foremost, longestAt, shortestPlace, deeperAt, deepestColumn, nameOf, tooLongIn, pastBottomIn, limitingIn, limitingOf}
 use Rattle.start_laws.specs.Laws.{Carries, network-is, screen-is, across-is, down-is}
+use Rattle.start_laws.specs.Steps.{refusal-is}
 use Rattle.ledger.specs.Ledger.{inSet}
 
 -- an answer by the number of a refusal, where the value counts only if the number is 0
@@ -281,17 +283,25 @@ module _ {scenario : Site} {s : State} {r : Record} (h : Carries scenario s r) w
   same-column vs = λ t. foremost (λ j k. ltZ (network.drawdown (network-is h t) vs (same-places t 0 k)) (network.drawdown (network-is h t) vs (same-places t 0 j))) 1 (same-columns t - 2)
 
   module _ (rate dt : ℕ) where
-    same-refusal : stepRefusal r rate dt ≡ refusal N s rate dt
-    unfolding stepRefusal refusal first
-    same-refusal = rw (h .valid, network-is h, h .state)
-
     same-limiting : (n : ℕ) → limitingIn (gridOf r) (s .losses) rate dt n ≡ limitingIn G (s .losses) rate dt n
     unfolding limitingIn pastBottomIn
     same-limiting n = rw (same-too-long, network-is h, same-column (lossesAfter N (s .losses) rate dt))
 
     pub told-limiting : limitingOf r rate dt ≡ limitingIn G (s .losses) rate dt (refusal N s rate dt)
     unfolding limitingOf
-    told-limiting = rw (h .state, same-refusal) (same-limiting (refusal N s rate dt))
+    told-limiting = rw (h .state, refusal-is h rate dt) (same-limiting (refusal N s rate dt))
+
+-- what is named is a place
+pub named-place : (G : Grid) (p : Place) → isNamed G p ≡ true → numberOf G p < networkOf G .places
+unfolding isNamed isLayer isStored numberOf networkOf placeCount
+named-place G Well e = omega arith
+named-place G (Cell i zero) e = absurd (false≢true (and-right (leb 1 i && leb i (G .layers)) false e))
+named-place G (Cell i (suc j)) e =
+    let layer = and-left (leb 1 i && leb i (G .layers)) (leb 1 (suc j) && ltb (suc j) (G .columns)) e in
+    let column = and-right (leb 1 i && leb i (G .layers)) (leb 1 (suc j) && ltb (suc j) (G .columns)) e in
+    place-below G (i - 1) j
+    (omega (arith, leb-true 1 i (and-left (leb 1 i) (leb i (G .layers)) layer), leb-true i (G .layers) (and-right (leb 1 i) (leb i (G .layers)) layer)))
+    (ltb-true (suc j) (G .columns) (and-right (leb 1 (suc j)) (ltb (suc j) (G .columns)) column))
 
 -- ---- the set that bytes give
 module _ (N : Network) (bytes : List ℕ) where

@@ -32,8 +32,8 @@ use Rattle.step_rules.specs.Step.{withState, stepRefusal, stepOf}
 use Rattle.step_rules.specs.Laws.{step-outcome, same-grid, taken, state-is, step-valid}
 use Rattle.readings.specs.declared.Place.{Place}
 use Rattle.readings.specs.Readings.{amountOf, balanceOf, isNamed, numberOf, totalsIn, drawdownOf, budgetOf}
-use Rattle.readings.specs.Laws.{named-place}
 use Rattle.ledger.specs.Calls.{Call, step, read, left, leftByAll}
+use Rattle.ledger.proofs.Readings.{named-place}
 use Rattle.ledger_recovery.specs.Recovery.{isAtRest, largest, Reads, Between, Each, nothing, further, lost}
 use Rattle.ledger_recovery.proofs.Largest.{largest-above, largest-least, largest-named}
 

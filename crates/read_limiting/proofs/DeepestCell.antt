@@ -12,7 +12,7 @@ use lib.IntN.{ℤ, pos}
 use lib.ListN.{getD}
 use lib.Signed.{ltZ}
 use Rattle.limits.specs.Limits.{drawdownLimit}
-use Rattle.network.specs.Network.{Network, lossAt, storageAt, drawdown, lossesAfter}
+use Rattle.network.specs.Network.{Network, storageAt, drawdown, lossesAfter}
 use Rattle.network.specs.Grid.{Grid, place, networkOf}
 use Rattle.network.specs.laws.Bounds.{losses-after, depths-after}
 use Rattle.network.specs.laws.Places.{place-below, place-cell}
@@ -25,12 +25,12 @@ use Rattle.step_drawdowns.specs.Drawdowns.{depthOf, depthAt}
 use Rattle.step_stability.specs.Laws.{cell-s}
 use Rattle.coefficient_cells.specs.Worked.{areasOf}
 use Rattle.step_losses.specs.declared.Swept.{Swept}
+use Rattle.slot_places.specs.Slots.{slot-at}
 use Rattle.step_sweep.specs.declared.Terms.{Terms}
 use Rattle.step_sweep.specs.Worked.{Lent, lent, lossesOf, Workable, Worked}
 use Rattle.step_places.specs.Terms.{termsOf, lentOf}
-use Rattle.step_places.specs.Worked.{worked-cell}
 use Rattle.step_rules.specs.Ready.{Ready}
-use Rattle.step_rules.proofs.Laws.{asks-terms}
+use Rattle.step_rules.proofs.Laws.{cell-is, asks-terms}
 use Rattle.readings.specs.declared.Place.{Place}
 use Rattle.readings.specs.declared.Place.the-variants.{Cell}
 use Rattle.read_limiting.specs.declared.Limiting.{Limiting}
@@ -38,7 +38,6 @@ use Rattle.read_limiting.specs.Limiting.{foremost, deeperAt, deepestColu
 use Rattle.read_limiting.specs.Slots.{slotPlace, deeperSlot, Shallow}
 use Rattle.read_limiting.proofs.Foremost.{Foremost, one-foremost, foremost-is}
 use Rattle.read_limiting.proofs.Orders.{deeper-order}
-use Rattle.read_limiting.proofs.ShortestPlace.{slot-is}
 
 pub fewer : {vs : List ℤ} {ss : List ℕ} {n m : ℕ} → Shallow vs ss n → m ≤ n → Shallow vs ss m
 fewer h le = record { loss = λ k lt. h .loss k (omega arith); depth = λ k lt. h .depth k (omega arith) }
@@ -65,21 +64,18 @@ module _ (r : Record) (rate dt : ℕ) (y : Ready r rate dt) where
   top : 0 < r .site .layers
   top = omega (arith, counts .layers-least)
 
-  loss-is : (j : ℕ) → suc j < r .site .columns → getD vs j (pos 0) ≡ lossAt after (place G 0 (suc j))
-  loss-is j h = let e : j ≡ 50 * 0 + j = omega arith in ap (λ n. getD vs n (pos 0)) e ∙ worked-cell r v rate dt 0 j top h
-
   storage-is : (j : ℕ) → suc j < r .site .columns → getD (r .storages) j 0 ≡ storageAt N (place G 0 (suc j))
   storage-is j h = let e : j ≡ 50 * 0 + j = omega arith in
-      sym (cell-s r (v .counts) (v .coefficientsUnused) 0 j top h ∙ ap (λ n. getD (r .storages) n 0) (slot-is 0 j ∙ sym e))
+      sym (cell-s r (v .counts) (v .coefficientsUnused) 0 j top h ∙ ap (λ n. getD (r .storages) n 0) (slot-at 0 j ∙ sym e))
 
   depth-is : (j : ℕ) → suc j < r .site .columns → depthAt vs (r .storages) j ≡ drawdown N after (place G 0 (suc j))
   unfolding depthAt depthOf drawdown
-  depth-is j h = rw (loss-is j h, storage-is j h)
+  depth-is j h = rw (cell-is r rate dt y j h, storage-is j h)
 
   pub after-shallow : Shallow vs (r .storages) (r .site .columns - 1)
   unfolding networkOf gridOf
   after-shallow = record {
-    loss = λ j h. rw (loss-is j (omega arith)) (losses-after N (valid-proper r v) (stateOf r) (v .kept) dt (y .steady) rate (place G 0 (suc j)) (place-below G 0 j top (omega arith)));
+    loss = λ j h. rw (cell-is r rate dt y j (omega arith)) (losses-after N (valid-proper r v) (stateOf r) (v .kept) dt (y .steady) rate (place G 0 (suc j)) (place-below G 0 j top (omega arith)));
     depth = λ j h. rw (depth-is j (omega arith)) (depths-after N (valid-proper r v) (stateOf r) (v .kept) dt (y .steady) rate drawdownLimit (v .kept .depths) (place G 0 (suc j)) (place-below G 0 j top (omega arith))
         (λ z. absurd (omega (arith, z, place-cell G 0 j (omega arith)))));
   }

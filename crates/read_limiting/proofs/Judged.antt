@@ -5,21 +5,19 @@ use mathlib.Core.Path.{_≡_, refl}
 use mathlib.Core.Bool.{Bool, true, false, not}
 use mathlib.Core.Logic.{_⊎_, inl, inr}
 use mathlib.Core.List.{List, [], _∷_}
-use Prim.Native.Nat.{ℕ, _≤_, _<_}
+use Prim.Native.Nat.{ℕ, _<_}
 use native.Mathlib.Omega.{arith}
-use lib.Dec.{eqb, ltb}
 use lib.IntN.{ℤ}
-use borrow.Author.Tests.{ltb-false, not-true, not-false}
+use borrow.Author.Tests.{not-true, not-false}
 use Rattle.laws.specs.Lists.{first}
-use Rattle.laws.specs.Sums.{or-no}
-use Rattle.limits.specs.Limits.{rateLimit, lengthLimit}
-use Rattle.network.specs.Network.{Network, lossesAfter, stable, unstable, lengthOut, rateOrLengthOut, totalsPass, wellTooDeep, tableTooDeep, stepTests}
+use Rattle.network.specs.Network.{Network, lossesAfter, stable, unstable, rateOrLengthOut, totalsPass, wellTooDeep, tableTooDeep, stepTests}
 use Rattle.network.specs.Grid.{networkOf}
 use Rattle.record.specs.declared.Record.{Record}
 use Rattle.record.specs.Record.{gridOf, stateOf}
 use Rattle.validity.specs.Validity.{valid}
 use Rattle.step_rules.specs.Step.{stepRefusal}
 use Rattle.step_rules.specs.Ready.{Ready}
+use Rattle.step_rules.proofs.Laws.{within-limits}
 use Rattle.read_limiting.specs.Slots.{TooLongFor}
 
 -- ---- a table of tests, by the number of the first that holds
@@ -114,14 +112,9 @@ module _ (r : Record) (rate dt : ℕ) where
   tests-other = at-other (not (valid r)) (rateOrLengthOut rate dt) (unstable N dt) (totalsPass (stateOf r) rate dt) (wellTooDeep N after) (tableTooDeep N after)
 
   -- what the functions of this crate ask
-  pub small-length : rateOrLengthOut rate dt ≡ false → (rateLimit < rate → ⊥) × (dt ≤ lengthLimit)
-  unfolding rateOrLengthOut lengthOut
-  small-length e =
-      let tests = or-no (ltb rateLimit rate) (lengthOut dt) e in
-      (λ h. omega (arith, h, ltb-false rateLimit rate (tests .0)), ltb-false lengthLimit dt (or-no (eqb dt 0) (ltb lengthLimit dt) (tests .1) .1))
 
   pub refused-8 : stepRefusal r rate dt ≡ 8 → TooLongFor r
-  refused-8 q = let t = tests-8 q in record { passed = t .0; length = dt; limited = small-length (t .1) .1; unsteady = t .2 }
+  refused-8 q = let t = tests-8 q in record { passed = t .0; length = dt; limited = within-limits rate dt (t .1) .1; unsteady = t .2 }
 
   pub refused-11 : stepRefusal r rate dt ≡ 11 → Ready r rate dt
   refused-11 q = tests-11 q .0

@@ -6,7 +6,7 @@ use mathlib.Core.Bool.{Bool, true, false, cond, not, _&&_, _||_, true≢false, f
 use mathlib.Core.Logic.{_⊎_, inl, inr, ⊎-elim}
 use mathlib.Core.List.{List, map, Memᴰ·of-map}
 use Prim.Native.Nat.{ℕ, suc, _*_, _-_, _^_, _≤_, _<_}
-use native.Mathlib.Nat.{lt-div-mul-add, le-div-iff-mul-le}
+use native.Mathlib.Nat.{lt-div-mul-add}
 use native.Mathlib.Omega.{arith}
 use lib.Dec.{eqb, leb, ltb}
 use lib.IntN.{ℤ, pos}
@@ -35,14 +35,13 @@ use Rattle.step_rules.specs.Ready.{Ready}
 use Rattle.step_rules.proofs.Laws as step
 use Rattle.readings.specs.declared.Place.the-variants.{Well, Cell}
 use Rattle.readings.specs.Readings.{isLayer, isStored, isNamed, numberOf}
-use Rattle.readings.specs.Laws.{named-place}
 use Rattle.read_limiting.specs.declared.Limiting.{Limiting}
 use Rattle.read_limiting.specs.Limiting.{setsLimit, longestAt, shorterAt, shortestPlace, deeperAt, deepestColumn, nameOf, tooLongIn, pastBottomIn, limitingIn, limitingOf}
 use Rattle.read_limiting.specs.Reason.{numberIn, depthAfter, OfLength, OfBottom, OfNothing, Says, Agrees, Reason}
 use Rattle.read_limiting.proofs.Foremost.{Foremost, foremost-is}
-use Rattle.read_limiting.proofs.Judged.{tests-8, tests-10, tests-11, tests-other, small-length}
+use Rattle.read_limiting.proofs.Judged.{tests-8, tests-10, tests-11, tests-other}
 use Rattle.read_limiting.proofs.Orders.{deeper-order, shorter-order}
-use Rattle.read_limiting.proofs.ShortestPlace.{steady-within}
+use Rattle.read_limiting.proofs.ShortestPlace.{bears-within, steady-within}
 
 module _ (r : Record) (rate dt : ℕ) where
   abbrev G : Grid
@@ -141,10 +140,19 @@ module _ (r : Record) (rate dt : ℕ) where
     stands : stable N n ≡ true
     stands = steady-within N n (λ o h s. within o h s .1)
 
+    -- a place before it allows more, or any
+    by-first : (a b : Bool) (x y : ℕ) → (a && (not b || ltb x y)) ≡ true → b ≡ true → x < y
+    by-first true true x y e t = ltb-true x y e
+    by-first false b x y e t = absurd (false≢true e)
+    by-first true false x y e t = absurd (false≢true t)
+
+    earlier : (o : ℕ) → o < p → leb (suc n * conductanceSum N o) (10 ^ 6 * storageAt N o) ≡ true
+    unfolding shorterAt
+    earlier o h = bears-within N o (suc n) (by-first (setsLimit N p) (setsLimit N o) (longestAt N p) (longestAt N o) (found .first o (omega arith) h))
+
     -- one µs more at that place
     bearing : leb (n * conductanceSum N p) (10 ^ 6 * storageAt N p) ≡ true
-    unfolding longestAt
-    bearing = le-leb (n * conductanceSum N p) (10 ^ 6 * storageAt N p) (le-div-iff-mul-le sum .0 (omega arith))
+    bearing = bears-within N p n (λ e. omega arith)
 
     alone : leb (suc n * conductanceSum N p) (10 ^ 6 * storageAt N p) ≡ false
     unfolding longestAt
@@ -156,7 +164,7 @@ module _ (r : Record) (rate dt : ℕ) where
 
     sized : rateOrLengthOut rate (suc n) ≡ false
     unfolding rateOrLengthOut lengthOut
-    sized = let t = small-length r rate dt (tests-8 r rate dt q .1) in rw (le-ltb rateLimit rate (⊎-elim (λ lt. absurd (t .0 lt)) (λ le. le) (below-or-not rateLimit rate)), ne-eqb (suc n) 0 (omega arith), le-ltb lengthLimit (suc n) (omega (arith, t .1, shorter)))
+    sized = let t = step.within-limits rate dt (tests-8 r rate dt q .1) in rw (le-ltb rateLimit rate (t .0), ne-eqb (suc n) 0 (omega arith), le-ltb lengthLimit (suc n) (omega (arith, t .1, shorter)))
 
     refused-more : stepOf r rate (suc n) .outcome ≡ outcomeOf 8
     unfolding outcomeOf
@@ -176,8 +184,7 @@ module _ (r : Record) (rate dt : ℕ) where
       refused = refused-more;
       bearing = rw number bearing;
       alone = rw number alone;
-      least = λ o e. rw number (least (numberOf G o) (named-place G o e));
-      first = λ o e lt. let under : numberOf G o < p = rw number at lt in rw number (found .first (numberOf G o) (omega arith) under);
+      first = λ o e lt. earlier (numberOf G o) (rw number at lt);
     }
       where
         given-8 : stepOf r rate n .outcome ≡ outcomeOf 8 → stable N n ≡ false

@@ -10,7 +10,7 @@ use Prim.Native.Nat.{ℕ, suc, _+_, _*_, _-_, _/_, _%_, _^_, _≤_, _<_}
 use native.Mathlib.Nat.{le-div-iff-mul-le, mul-le-mul-right}
 use native.Mathlib.Decide.{ℕ-discrete}
 use native.Mathlib.Omega.{arith}
-use lib.Dec.{eqb, ltb}
+use lib.Dec.{eqb, leb, ltb}
 use lib.ListN.{getD}
 use borrow.Author.Tests.{ltb-true, ltb-false, lt-ltb, le-ltb, le-leb, lt-leb, eq-eqb, ne-eqb}
 use Rattle.laws.specs.Number.{below-or-not}
@@ -23,10 +23,11 @@ use Rattle.network.specs.laws.Places.{by-place, place-below, place-cell, getD-o
 use Rattle.site.specs.Laws.{counts-hold}
 use Rattle.site.specs.Limited.{Counts}
 use Rattle.record.specs.declared.Record.{Record}
-use Rattle.record.specs.Record.{slot, gridOf}
+use Rattle.record.specs.Record.{gridOf}
 use Rattle.validity.specs.Laws.{Valid, valid-record}
 use Rattle.step_stability.specs.Stability.{wellSum, cellSum}
 use Rattle.step_stability.specs.Laws.{cell-c, cell-s, well-c}
+use Rattle.slot_places.specs.Slots.{slot-at}
 use Rattle.readings.specs.declared.Place.the-variants.{Well, Cell}
 use Rattle.read_limiting.specs.declared.Limiting.{Limiting}
 use Rattle.read_limiting.specs.Limiting.{foremost, setsLimit, longestAt, shorterAt, shortestPlace, nameOf, tooLongIn}
@@ -75,7 +76,7 @@ module _ (c s : ℕ) where
       by-test true e h = absurd (omega arith)
       by-test false e h = (elim (ℕ-discrete c 0) [ yes z ↦ absurd (true≢false (sym (eq-eqb c 0 z) ∙ e)) | no f ↦ omega arith ], in-word-is (10 ^ 6 * s / c) h)
 
-  pub word-fits : longestWord c s ≤ noLimit
+  word-fits : longestWord c s ≤ noLimit
   unfolding longestWord
   word-fits = by-test (eqb c 0)
     where
@@ -136,20 +137,18 @@ module _ (N : Network) where
       let k : word p < noLimit = omega (arith, word-fits (conductanceSum N q) (storageAt N q)) in
       first-of (setsLimit N p) (setsLimit N q) (longestAt N p) (longestAt N q) (limited p k .0) (λ e. omega (arith, limited p k .1, h, longer q e))
 
+  -- a place bears a step that is within its longest, where it sets a limit
+  pub bears-within : (p n : ℕ) → (setsLimit N p ≡ true → n ≤ longestAt N p) → leb (n * conductanceSum N p) (10 ^ 6 * storageAt N p) ≡ true
+  unfolding setsLimit longestAt
+  bears-within p n h = le-leb (n * conductanceSum N p) (10 ^ 6 * storageAt N p) (elim (ℕ-discrete (conductanceSum N p) 0) [
+    | yes z ↦ rw z (omega arith)
+    | no f ↦ let c : 0 < conductanceSum N p = omega arith in le-div-iff-mul-le c .0 (h (lt-ltb 0 (conductanceSum N p) c))
+  ])
+
   -- 8 lets a step pass that is within each place's longest
   pub steady-within : (n : ℕ) → ((p : ℕ) → p < N .places → setsLimit N p ≡ true → n ≤ longestAt N p) → stable N n ≡ true
-  unfolding stable setsLimit longestAt
-  steady-within n h = all-from _ (N .places) (λ p below. le-leb (n * conductanceSum N p) (10 ^ 6 * storageAt N p) (at p below))
-    where
-      at : (p : ℕ) → p < N .places → n * conductanceSum N p ≤ 10 ^ 6 * storageAt N p
-      at p below = elim (ℕ-discrete (conductanceSum N p) 0) [
-        | yes z ↦ rw z (omega arith)
-        | no f ↦ let c : 0 < conductanceSum N p = omega arith in le-div-iff-mul-le c .0 (h p below (lt-ltb 0 (conductanceSum N p) c))
-      ]
-
-pub slot-is : (i j : ℕ) → slot i (suc j) ≡ 50 * i + j
-unfolding slot
-slot-is i j = omega arith
+  unfolding stable
+  steady-within n h = all-from _ (N .places) (λ p below. bears-within p n (h p below))
 
 -- a cell that comes before another in the numbering of places has a lower slot
 earlier : (G : Grid) (i j i₀ j₀ : ℕ) → G .columns ≤ 50 → suc j < G .columns → suc j₀ < G .columns → place G i (suc j) < place G i₀ (suc j₀) → 50 * i + j < 50 * i₀ + j₀
@@ -186,8 +185,8 @@ module _ (r : Record) (h : TooLongFor r) where
   unfolding cellLongest
   cell-word i j hi hj =
       rw (column, lt-leb (r .site .columns) (j + 1) (omega arith))
-      (sym (ap₂ longestWord (cell-c r (v .counts) (v .coefficientsUnused) i j hi hj ∙ ap (cellSum (r .screen) (r .horizontal) (r .vertical)) (slot-is i j))
-      (cell-s r (v .counts) (v .coefficientsUnused) i j hi hj ∙ ap (λ n. getD (r .storages) n 0) (slot-is i j))))
+      (sym (ap₂ longestWord (cell-c r (v .counts) (v .coefficientsUnused) i j hi hj ∙ ap (cellSum (r .screen) (r .horizontal) (r .vertical)) (slot-at i j))
+      (cell-s r (v .counts) (v .coefficientsUnused) i j hi hj ∙ ap (λ n. getD (r .storages) n 0) (slot-at i j))))
     where
       column : (50 * i + j) % 50 ≡ j
       column = omega (arith, counts .columns-most)

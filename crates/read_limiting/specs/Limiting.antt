@@ -16,7 +16,7 @@ use Rattle.readings.specs.declared.Place.{Place}
 use Rattle.readings.specs.declared.Place.the-variants.{Well, Cell}
 use Rattle.read_limiting.specs.declared.Limiting.{Limiting}
 
--- of the numbers k to k + n the first that no other comes before, where `before q p` says that q comes before p
+-- of the numbers k to k + n the first that no other comes before, where `before q p` says that q comes before p in some order
 unfoldable pub foremost : (ℕ → ℕ → Bool) → ℕ → ℕ → ℕ
 foremost before k zero = k
 foremost before k (suc n) = cond (before (k + suc n) (foremost before k n)) (k + suc n) (foremost before k n)

@@ -1,5 +1,6 @@
 -- The true reason (document 02, N12): what holds of the answer to a step of dt at a rate on a record, in terms of what `step` answers and of the tests that it
--- judges by. D is in µm.
+-- judges by.
+-- Units: D µm; lengths of steps µs; rates ml/s.
 use mathlib.Core.Path.{_≡_}
 use mathlib.Core.Bool.{Bool, true, false}
 use mathlib.Core.Logic.{_⊎_}
@@ -16,7 +17,7 @@ use Rattle.readings.specs.declared.Place.{Place}
 use Rattle.readings.specs.declared.Place.the-variants.{Well, Cell}
 use Rattle.readings.specs.Readings.{isNamed, numberOf}
 use Rattle.read_limiting.specs.declared.Limiting.{Limiting}
-use Rattle.read_limiting.specs.Limiting.{shorterAt, limitingOf}
+use Rattle.read_limiting.specs.Limiting.{limitingOf}
 
 -- the refusal of which an answer gives the place, or 14, or 0 for nothing of this kind
 unfoldable pub numberIn : Limiting → ℕ
@@ -53,9 +54,8 @@ module _ (r : Record) (rate dt : ℕ) where
     -- the place alone bears that length, and already forbids one µs more
     pub bearing : bears p n ≡ true
     pub alone : bears p (suc n) ≡ false
-    -- no place allows only a shorter step, and each that comes before it in the numbering of places a longer one
-    pub least : (q : Place) → isNamed G q ≡ true → shorterAt N (numberOf G q) (numberOf G p) ≡ false
-    pub first : (q : Place) → isNamed G q ≡ true → numberOf G q < numberOf G p → shorterAt N (numberOf G p) (numberOf G q) ≡ true
+    -- it is the first that does: each place that comes before it, the well first, then by layer and column, bears one µs more
+    pub first : (q : Place) → isNamed G q ≡ true → numberOf G q < numberOf G p → bears q (suc n) ≡ true
 
   -- 11 with the place p
   pub record OfBottom (p : Place) : Type 0 where

@@ -1,4 +1,5 @@
 -- What the answer comes to in a record's arrays, slot by slot: inner definitions, for the contracts of this crate's functions.
+-- Units: C 10^-12 m²/s; S nl per m; V nl; D µm; lengths of steps µs.
 use mathlib.Core.Path.{_≡_}
 use mathlib.Core.Bool.{Bool, true, false, cond}
 use mathlib.Core.List.{List}
@@ -57,7 +58,7 @@ pub record TooLongFor (r : Record) : Type 0 where
 unfoldable pub deeperSlot : List ℤ → List ℕ → ℕ → ℕ → Bool
 deeperSlot vs ss j k = ltZ (depthAt vs ss k) (depthAt vs ss j)
 
--- D of the first n slots is within its limit
+-- V of the first n slots is not negative, and their D is within its limit
 pub record Shallow (vs : List ℤ) (ss : List ℕ) (n : ℕ) : Type 0 where
   pub loss : (k : ℕ) → k < n → pos 0 ≤ℤ getD vs k (pos 0)
   pub depth : (k : ℕ) → k < n → depthAt vs ss k ≤ℤ pos drawdownLimit

@@ -31,7 +31,7 @@ const NO_LIMIT: u64 = 18446744073709551615;
 
 // What would hold the step back. Place is document 01's term.
 pub enum Limiting {
-    TooLong(Place, u64), // 8: the place with the shortest allowed step, and that step, the longest that 8 allows, perhaps 0
+    TooLong(Place, u64), // 8: the place with the shortest allowed step, and that step in whole µs, the longest that 8 allows, perhaps 0
     PastIntake(Place), // 10: the well
     PastBottom(Place), // 11: the cell of layer 1 that would be deepest
     Nothing, // nothing of this kind: the step would be taken, or refused with 7 or 9
@@ -162,6 +162,7 @@ fn losses_after(record: Record, rate: u64, dt: u64) -> [i64; CELL_PLACES]
     let terms = step_run::terms_of(record, rate, dt);
     let site = record.site;
     let areas = coefficient_cells::areas_of(site);
+    // none: for one step they do not pay
     let multipliers = step_drawdowns::multipliers(&record.storages, 0);
     let well_loss = record.well_loss;
     let inflow = record.inflow;

@@ -1,38 +1,31 @@
 -- What the proofs of the readings share: laws only, nothing to believe.
 --     amount-refused, amount-given     the answer at the first test that holds, and where none does; balance-..: of the budget
 --     well-back, inflow-back           the machine reads back the well's loss and the inflow total as they are
---     named-place                      what is named is a place
 use mathlib.Core.Path.{_≡_, ap}
-use mathlib.Core.Bool.{Bool, true, false, _&&_, false≢true}
+use mathlib.Core.Bool.{Bool}
 use mathlib.Core.List.{List}
-use Prim.Native.Nat.{ℕ, zero, suc, _-_, _≤_, _<_, zero-le}
+use Prim.Native.Nat.{ℕ, suc, _≤_, _<_, zero-le}
 use native.Mathlib.Omega.{arith}
-use lib.Dec.{leb, ltb}
 use lib.IntN.{ℤ, natAbs}
-use borrow.Author.Tests.{leb-true, ltb-true}
 use mir.Syntax.{w64}
 use mir.Val.{toZ, ofZ}
 use mir.Facts.{toZ-ofZ}
-use Rattle.laws.specs.All.{and-left, and-right}
 use Rattle.laws.specs.Lists.{first}
 use Rattle.laws.specs.Refusal.{First, first-is}
 use Rattle.laws.specs.Signed.{small-fits}
 use Rattle.laws.specs.Sums.{sumℕ-one, mem-range}
 use Rattle.limits.specs.Limits.{totalLimit}
 use Rattle.network.specs.Network.{Network, State, lossAt}
-use Rattle.network.specs.Grid.{Grid, placeCount, onePerPlace, networkOf}
+use Rattle.network.specs.Grid.{onePerPlace, networkOf}
 use Rattle.network.specs.Kept.{Kept}
-use Rattle.network.specs.laws.Places.{place-below}
 use Rattle.network.specs.laws.Totals.{size, all-lost}
 use Rattle.record.specs.declared.Record.{Record}
 use Rattle.record.specs.Record.{gridOf, stateOf}
 use Rattle.validity.specs.Laws.{Valid, valid-proper}
-use Rattle.readings.specs.declared.Place.{Place}
-use Rattle.readings.specs.declared.Place.the-variants.{Well, Cell}
 use Rattle.readings.specs.declared.Amount.{Amount}
 use Rattle.readings.specs.declared.Totals.{Totals}
 use Rattle.readings.specs.declared.Balance.{Balance}
-use Rattle.readings.specs.Readings.{amountOf, balanceOf, isLayer, isStored, isNamed, numberOf}
+use Rattle.readings.specs.Readings.{amountOf, balanceOf}
 
 -- ---- answers
 module _ {ts : List (Bool × ℕ)} where
@@ -69,16 +62,3 @@ module _ (r : Record) (v : Valid r) where
   pub inflow-back : toZ w64 (ofZ w64 (r .inflow)) ≡ r .inflow
   unfolding stateOf
   inflow-back = toZ-ofZ (small-fits (r .inflow) (inflow-small (networkOf (gridOf r)) (stateOf r) (v .kept)) (omega arith))
-
--- ---- places
--- what is named is a place
-pub named-place : (G : Grid) (p : Place) → isNamed G p ≡ true → numberOf G p < networkOf G .places
-unfolding isNamed isLayer isStored numberOf networkOf placeCount
-named-place G Well e = omega arith
-named-place G (Cell i zero) e = absurd (false≢true (and-right (leb 1 i && leb i (G .layers)) false e))
-named-place G (Cell i (suc j)) e =
-    let layer = and-left (leb 1 i && leb i (G .layers)) (leb 1 (suc j) && ltb (suc j) (G .columns)) e in
-    let column = and-right (leb 1 i && leb i (G .layers)) (leb 1 (suc j) && ltb (suc j) (G .columns)) e in
-    place-below G (i - 1) j
-    (omega (arith, leb-true 1 i (and-left (leb 1 i) (leb i (G .layers)) layer), leb-true i (G .layers) (and-right (leb 1 i) (leb i (G .layers)) layer)))
-    (ltb-true (suc j) (G .columns) (and-right (leb 1 (suc j)) (ltb (suc j) (G .columns)) column))

@@ -1,5 +1,7 @@
 -- What is known where 14, 7 and 8 let a step pass, and the answers of a step.
 --     refused-14, refused-7, refused-8      the answer where one of these refuses
+--     within-limits     what 7 asks of rate and length
+--     cell-is           V of a slot of layer 1 after the step is that of its cell
 --     asks-terms        what `step_judged::advance` asks
 --     well-back, inflow-back, mark-back     what the machine reads back of the course
 --     stepped           what `step_judged::advance` gives is the step's answer; course-kept: with the well's D in its course
@@ -52,6 +54,13 @@ use Rattle.step_places.specs.Worked.{workable, worked-well, worked-inflow, work
 use Rattle.step_rules.specs.Step.{withState, stepRefusal, stepOf}
 use Rattle.step_rules.specs.Ready.{Ready, courseOf, withCourse}
 
+-- 7 lets rate and length pass
+pub within-limits : (rate dt : ℕ) → rateOrLengthOut rate dt ≡ false → (rate ≤ rateLimit) × (dt ≤ lengthLimit)
+unfolding rateOrLengthOut lengthOut
+within-limits rate dt e =
+    let tests = or-no (ltb rateLimit rate) (lengthOut dt) e in
+    (ltb-false rateLimit rate (tests .0), ltb-false lengthLimit dt (or-no (eqb dt 0) (ltb lengthLimit dt) (tests .1) .1))
+
 -- the answer of a refused step
 abbrev pub refused : ℕ → Record → Answer
 refused n r = record { outcome = Refused n; «record» = r }
@@ -98,10 +107,7 @@ module _ (r : Record) (rate dt : ℕ) where
     v = known (y .passed)
 
     small : (rate ≤ rateLimit) × (dt ≤ lengthLimit)
-    unfolding rateOrLengthOut lengthOut
-    small =
-        let tests = or-no (ltb rateLimit rate) (lengthOut dt) (y .sized) in
-        (ltb-false rateLimit rate (tests .0), ltb-false lengthLimit dt (or-no (eqb dt 0) (ltb lengthLimit dt) (tests .1) .1))
+    small = within-limits rate dt (y .sized)
 
     -- ---- what is asked
 
@@ -111,7 +117,7 @@ module _ (r : Record) (rate dt : ℕ) where
     natural : (p : ℕ) → p < N .places → pos 0 ≤ℤ lossAt after p
     natural = losses-after N (valid-proper r v) s (v .kept) dt (y .steady) rate
 
-    cell-is : (j : ℕ) → suc j < r .site .columns → getD (lossesOf a) j (pos 0) ≡ lossAt after (place (gridOf r) 0 (suc j))
+    pub cell-is : (j : ℕ) → suc j < r .site .columns → getD (lossesOf a) j (pos 0) ≡ lossAt after (place (gridOf r) 0 (suc j))
     cell-is j h = ap (λ n. getD (lossesOf a) n (pos 0)) top ∙ worked-cell r v rate dt 0 j (omega (arith, counted (y .passed) .layers-least)) h
       where
         top : j ≡ 50 * 0 + j

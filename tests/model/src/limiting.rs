@@ -10,11 +10,11 @@ use crate::step;
 #[derive(Clone, Copy, PartialEq, Eq, Debug)]
 pub enum Limiting {
     /// 8: the place with the shortest allowed step, and the longest step that 8 allows, µs.
-    TooLong(Place, u64),
+    Stability(Place, u64),
     /// 10: the well.
-    PastIntake(Place),
+    Intake(Place),
     /// 11: the cell of layer 1 that would be deepest.
-    PastBottom(Place),
+    WaterTable(Place),
     /// Nothing of this kind: the step would be taken, or refused with 7 or 9.
     Nothing,
 }
@@ -24,8 +24,8 @@ pub fn limiting(record: &Record, rate: u64, length: u64) -> Result<Limiting, Ref
     match step::step(&mut record.clone(), rate, length) {
         Err(Refusal::Record) => Err(Refusal::Record),
         Err(Refusal::Stability) => Ok(too_long(record)),
-        Err(Refusal::Intake) => Ok(Limiting::PastIntake(Place::Well)),
-        Err(Refusal::WaterTable) => Ok(Limiting::PastBottom(deepest(record, rate, length))),
+        Err(Refusal::Intake) => Ok(Limiting::Intake(Place::Well)),
+        Err(Refusal::WaterTable) => Ok(Limiting::WaterTable(deepest(record, rate, length))),
         _ => Ok(Limiting::Nothing),
     }
 }
@@ -36,7 +36,7 @@ fn too_long(record: &Record) -> Limiting {
     let longest = longest_passing(|length| step::judge_stability(record, length, None).is_ok());
     let mut places = step::places(record);
     let place = places.find(|&place| !step::bears(record, place, longest + 1, None));
-    Limiting::TooLong(place.expect("8 refuses one µs more"), longest)
+    Limiting::Stability(place.expect("8 refuses one µs more"), longest)
 }
 
 /// The longest length (µs) that passes a test, of 0 and those that 7 allows, by halving. Where one does not pass, none that is longer does.

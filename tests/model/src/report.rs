@@ -200,7 +200,7 @@ fn write_limiting_lines(record: &Record, rate: u64, length: u64, out: &mut impl 
     let greatest = *limits::STEP_LENGTH.end();
     write_limiting(record, rate, length, out)?;
     write_limiting(record, rate, greatest, out)?;
-    if let Ok(Limiting::TooLong(_, longest)) = limiting(record, rate, greatest) {
+    if let Ok(Limiting::Stability(_, longest)) = limiting(record, rate, greatest) {
         write_limiting(record, rate, longest + 1, out)?;
         write_limiting(record, rate, longest, out)?;
         write_limiting(record, limits::RATE, longest, out)?;
@@ -212,9 +212,9 @@ fn write_limiting_lines(record: &Record, rate: u64, length: u64, out: &mut impl 
 /// and column 0.
 pub fn write_limiting(record: &Record, rate: u64, length: u64, out: &mut impl Write) -> io::Result<()> {
     let figures = |held: Limiting| match held {
-        Limiting::TooLong(place, longest) => format!("{} {} {longest}", Refusal::Stability, place_numbers(place)),
-        Limiting::PastIntake(place) => format!("{} {}", Refusal::Intake, place_numbers(place)),
-        Limiting::PastBottom(place) => format!("{} {}", Refusal::WaterTable, place_numbers(place)),
+        Limiting::Stability(place, longest) => format!("{} {} {longest}", Refusal::Stability, place_numbers(place)),
+        Limiting::Intake(place) => format!("{} {}", Refusal::Intake, place_numbers(place)),
+        Limiting::WaterTable(place) => format!("{} {}", Refusal::WaterTable, place_numbers(place)),
         Limiting::Nothing => "nothing".to_string(),
     };
     writeln!(out, "limiting {rate} {length} {}", value(limiting(record, rate, length).map(figures)))
@@ -374,7 +374,7 @@ fn write_flows(record: &Record, length: u64, out: &mut impl Write) -> io::Result
     Ok(())
 }
 
-/// Readings that 12 refuses, before any length is judged, and steps that 7 refuses, of which what holds a step back is not asked.
+/// Readings that 12 refuses, before any length is judged, and steps that 7 refuses, which nothing of this kind holds back.
 fn write_refused_readings(record: &Record, out: &mut Vec<u8>) -> io::Result<()> {
     let (layers, columns) = (record.layers, record.columns);
     let at = |layer, column| Place::Cell { layer, column };

@@ -247,14 +247,14 @@ pub fn limiting(ledger: &Ledger, rate: u64, length: u64) -> Limiting {
             let limited = ledger.places.iter().filter(|(place, _)| sums[place] > 0);
             let quotients = limited.map(|(&place, stored)| (1_000_000 * stored.storage / sums[&place], place));
             let (longest, place) = quotients.min().expect("some place has a face");
-            Limiting::TooLong(place, longest as u64)
+            Limiting::Stability(place, longest as u64)
         }
-        Err(Refusal::Intake) => Limiting::PastIntake(Place::Well),
+        Err(Refusal::Intake) => Limiting::Intake(Place::Well),
         Err(Refusal::WaterTable) => {
             let after = ledger.worked(rate, length);
             let tables = ledger.places.keys().filter(|place| matches!(place, Place::Cell { layer: 1, .. }));
             let deepest = tables.min_by_key(|&&place| (Reverse(after.drawdown(place)), place));
-            Limiting::PastBottom(*deepest.expect("there is a stored column"))
+            Limiting::WaterTable(*deepest.expect("there is a stored column"))
         }
         _ => Limiting::Nothing,
     }

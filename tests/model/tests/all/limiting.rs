@@ -43,7 +43,7 @@ fn states(text: &[u8]) -> Vec<State> {
 /// The steps that it asks for: of the rate and the length, the greatest length, what 8 allows and 1 µs more, and the greatest rate.
 fn asked(state: &State) -> Vec<(u64, u64)> {
     let mut steps = vec![(state.rate, state.length), (state.rate, GREATEST), (limits::RATE, state.length)];
-    if let Ok(Limiting::TooLong(_, longest)) = limiting(&state.record, state.rate, GREATEST) {
+    if let Ok(Limiting::Stability(_, longest)) = limiting(&state.record, state.rate, GREATEST) {
         steps.extend([(state.rate, longest + 1), (state.rate, longest), (limits::RATE, longest)]);
     }
     steps
@@ -52,9 +52,9 @@ fn asked(state: &State) -> Vec<(u64, u64)> {
 /// The number of the refusal that an answer is for, 0 for nothing of this kind.
 fn number(held: Limiting) -> u64 {
     match held {
-        Limiting::TooLong(..) => 8,
-        Limiting::PastIntake(_) => 10,
-        Limiting::PastBottom(_) => 11,
+        Limiting::Stability(..) => 8,
+        Limiting::Intake(_) => 10,
+        Limiting::WaterTable(_) => 11,
         Limiting::Nothing => 0,
     }
 }
@@ -68,15 +68,15 @@ fn checked(record: &Record, rate: u64, length: u64) -> Limiting {
     let refused = step(&mut record.clone(), rate, length).map_or_else(Refusal::number, |()| 0);
     assert_eq!(number(held), if [8, 10, 11].contains(&refused) { refused } else { 0 }, "{rate} {length}");
     match held {
-        Limiting::TooLong(place, longest) => {
+        Limiting::Stability(place, longest) => {
             assert!(longest < length);
             check_longest(record, &ledger, place, longest);
         }
-        Limiting::PastIntake(place) => {
+        Limiting::Intake(place) => {
             assert_eq!(place, Place::Well);
             assert!(ledger.worked(rate, length).drawdown(place) > 1000 * ledger.intake_depth);
         }
-        Limiting::PastBottom(place) => check_deepest(&ledger.worked(rate, length), place),
+        Limiting::WaterTable(place) => check_deepest(&ledger.worked(rate, length), place),
         Limiting::Nothing => (),
     }
     held
@@ -114,16 +114,16 @@ fn answers<const N: usize>(record: &Record, steps: [(u64, u64); N]) -> [Limiting
 #[test]
 fn bore_k_is_held_back_in_layer_2() {
     let k = bore_k::record();
-    let too_long = Limiting::TooLong(cell(2, 1), 657_001);
+    let too_long = Limiting::Stability(cell(2, 1), 657_001);
     assert_eq!(
         answers(&k, [(1000, 657_001), (1000, 657_002), (0, 657_002), (1000, GREATEST)]),
         [Limiting::Nothing, too_long, too_long, too_long]
     );
-    // Past 7 nothing is asked, whatever 8 would say, and 7 comes before it.
+    // A step that 7 refuses has nothing of this kind, whatever 8 would say of it: 7 comes before.
     let steps = [(10_000_001, 657_002), (u64::MAX, GREATEST), (0, 0), (0, GREATEST + 1), (u64::MAX, u64::MAX)];
     assert_eq!(answers(&k, steps), [Limiting::Nothing; 5]);
     let mut shallow = start(&bore_k::changed(bore_k::INTAKE, 16)).1;
-    let past = Limiting::PastIntake(Place::Well);
+    let past = Limiting::Intake(Place::Well);
     assert_eq!(
         answers(&shallow, [(1000, 500_000), (1000, 657_002), (900, 500_000)]),
         [past, too_long, Limiting::Nothing]
@@ -158,14 +158,14 @@ fn edges_that_tie_in_whole_us() {
     let record = states(&edge("limit-ties-row")).swap_remove(0).record;
     let least = WRONG_FOR_8[0].1(&borne(&record));
     assert_eq!((WRONG_FOR_8[0].0, least), ("fractions compared", Some((cell(3, 2), 3))));
-    assert_eq!(of_edge("limit-ties-row", GREATEST), [Limiting::TooLong(cell(2, 1), 3); 4]);
+    assert_eq!(of_edge("limit-ties-row", GREATEST), [Limiting::Stability(cell(2, 1), 3); 4]);
     // The well allows 3 too, with a larger fraction than any cell's.
     let (well, rows) = longest_of_edge("limit-ties-well");
     assert_eq!((well, rows[2][1]), (3, 3));
     let record = states(&edge("limit-ties-well")).swap_remove(0).record;
     assert_eq!(WRONG_FOR_8[0].1(&borne(&record)), Some((cell(3, 2), 3)));
-    assert_eq!(of_edge("limit-ties-well", GREATEST), [Limiting::TooLong(Place::Well, 3); 4]);
-    let outcomes = [Limiting::Nothing, Limiting::Nothing, Limiting::TooLong(Place::Well, 3), Limiting::Nothing];
+    assert_eq!(of_edge("limit-ties-well", GREATEST), [Limiting::Stability(Place::Well, 3); 4]);
+    let outcomes = [Limiting::Nothing, Limiting::Nothing, Limiting::Stability(Place::Well, 3), Limiting::Nothing];
     assert_eq!(of_edge("limit-ties-well", 0), outcomes);
 }
 
@@ -178,7 +178,7 @@ fn edges_with_one_shortest_place() {
         let (well, rows) = longest_of_edge(name);
         let longest: Vec<u64> = rows.into_iter().flatten().chain([well]).collect();
         assert_eq!(longest.iter().filter(|&&longest| longest <= 2).count(), 1, "{name}");
-        assert_eq!(of_edge(name, GREATEST), [Limiting::TooLong(place, 2); 4], "{name}");
+        assert_eq!(of_edge(name, GREATEST), [Limiting::Stability(place, 2); 4], "{name}");
     }
     let last = states(&edge("limit-last-cell")).swap_remove(0).record;
     assert_eq!((last.layers, last.columns), (4, 6));
@@ -188,7 +188,7 @@ fn edges_with_one_shortest_place() {
 fn edges_that_allow_no_step_at_all() {
     for (name, place) in [("limit-longest-0", cell(3, 1)), ("limit-longest-0-well", Place::Well)] {
         for length in [1, 2, GREATEST] {
-            assert_eq!(of_edge(name, length), [Limiting::TooLong(place, 0); 3], "{name}");
+            assert_eq!(of_edge(name, length), [Limiting::Stability(place, 0); 3], "{name}");
         }
         let record = states(&edge(name)).swap_remove(0).record;
         assert_eq!(answers(&record, [(0, 0), (limits::RATE, 0)]), [Limiting::Nothing; 2]);
@@ -198,14 +198,14 @@ fn edges_that_allow_no_step_at_all() {
 #[test]
 fn edges_without_a_limit_and_with_great_ones() {
     // No C: nothing at rest, whatever the length, and 10 alone when pumped.
-    let (nothing, past) = (Limiting::Nothing, Limiting::PastIntake(Place::Well));
+    let (nothing, past) = (Limiting::Nothing, Limiting::Intake(Place::Well));
     assert_eq!(of_edge("limit-no-flow", 0), [nothing, nothing, nothing, past]);
     let record = states(&edge("limit-no-flow")).swap_remove(3).record;
     assert!(borne(&record).iter().all(|borne| borne.sum() == 0));
     assert_eq!(answers(&record, [(0, 1), (0, GREATEST)]), [nothing; 2]);
     // The greatest length that 7 allows passes 8, and where the longest is 1 µs less it does not.
     assert_eq!(of_edge("limit-greatest", GREATEST), [nothing; 3]);
-    assert_eq!(of_edge("limit-under-greatest", GREATEST), [Limiting::TooLong(Place::Well, GREATEST - 1); 3]);
+    assert_eq!(of_edge("limit-under-greatest", GREATEST), [Limiting::Stability(Place::Well, GREATEST - 1); 3]);
     for (name, least) in [("limit-greatest", GREATEST.into()), ("limit-under-greatest", i128::from(GREATEST) - 1)] {
         let places = borne(&states(&edge(name)).swap_remove(0).record);
         assert_eq!(first_least(places.iter(), Borne::sum), Some((Place::Well, least)));
@@ -215,7 +215,7 @@ fn edges_without_a_limit_and_with_great_ones() {
     let places = borne(&record);
     assert_eq!(1_000_000 * places[1].storage / places[1].sum(), (1 << 64) + 21_323_384);
     assert_eq!((places[2].storage, places[2].sum()), (33, 0));
-    assert_eq!(of_edge("limit-over-a-word", GREATEST), [Limiting::TooLong(cell(3, 1), 495_650_000); 4]);
+    assert_eq!(of_edge("limit-over-a-word", GREATEST), [Limiting::Stability(cell(3, 1), 495_650_000); 4]);
 }
 
 /// The last state of an edge, with the step that it is asked of.
@@ -232,7 +232,7 @@ fn tables_of(state: &State) -> (Vec<u64>, Vec<i128>, Limiting) {
 
 #[test]
 fn edges_past_the_bottom() {
-    let at = |column| Limiting::PastBottom(cell(1, column));
+    let at = |column| Limiting::WaterTable(cell(1, column));
     for (name, rate, before, after, column) in [
         ("limit-outer-table", 6, [0, 987], [0, 1028], 2),
         ("limit-outer-table-at-rest", 0, [2425, 2994], [2470, 3045], 2),
@@ -253,7 +253,7 @@ fn edges_past_the_bottom() {
 
 #[test]
 fn edges_past_the_intake() {
-    let past = Limiting::PastIntake(Place::Well);
+    let past = Limiting::Intake(Place::Well);
     // 10 alone.
     assert_eq!(of_edge("k-intake-16", 500_000)[1], past);
     // Both 10 and 11: the well.
@@ -261,7 +261,7 @@ fn edges_past_the_intake() {
     let (before, after, held) = tables_of(&state);
     assert_eq!((before, held), (vec![4000], past));
     assert!(after[0] > 4000);
-    assert_eq!(answers(&state.record, [(1000, state.length)]), [Limiting::PastBottom(cell(1, 1))]);
+    assert_eq!(answers(&state.record, [(1000, state.length)]), [Limiting::WaterTable(cell(1, 1))]);
 }
 
 /// The states of the stored texts and the steps that are printed of them; of a text with many entries the first states.
@@ -441,7 +441,7 @@ fn stored_texts_find_wrong_rules_for_8() {
         let states = states(&case.text);
         let records = [&states[0].record, &states[states.len() - 1].record];
         let differs = |record: &Record| {
-            let Ok(Limiting::TooLong(place, longest)) = limiting(record, 0, GREATEST) else {
+            let Ok(Limiting::Stability(place, longest)) = limiting(record, 0, GREATEST) else {
                 return [false; WRONG_FOR_8.len()];
             };
             let (places, right) = (borne(record), Some((place, i128::from(longest))));
@@ -514,13 +514,13 @@ fn stored_texts_find_wrong_rules_for_11() {
         for state in states(&case.text) {
             for (rate, length) in asked(&state) {
                 let held = limiting(&state.record, rate, length).unwrap();
-                if !matches!(held, Limiting::PastIntake(_) | Limiting::PastBottom(_)) {
+                if !matches!(held, Limiting::Intake(_) | Limiting::WaterTable(_)) {
                     continue;
                 }
                 let bottom = 1000 * i128::from(state.record.thickness[0]);
                 let past_bottom = table_after(&state.record, rate, length).iter().any(|&depth| depth > bottom);
-                both += u32::from(past_bottom && held == Limiting::PastIntake(Place::Well));
-                if let Limiting::PastBottom(place) = held {
+                both += u32::from(past_bottom && held == Limiting::Intake(Place::Well));
+                if let Limiting::WaterTable(place) = held {
                     let after = ledger_of(&state.record).worked(rate, length);
                     for (rule, (_, wrong)) in WRONG_FOR_11.iter().enumerate() {
                         differs[rule] |= wrong(&state.record, &after) != place;
