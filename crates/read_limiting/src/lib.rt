@@ -162,7 +162,7 @@ fn losses_after(record: Record, rate: u64, dt: u64) -> [i64; CELL_PLACES]
     let terms = step_run::terms_of(record, rate, dt);
     let site = record.site;
     let areas = coefficient_cells::areas_of(site);
-    // none: for one step they do not pay
+    // no multipliers: for one step they do not pay
     let multipliers = step_drawdowns::multipliers(&record.storages, 0);
     let well_loss = record.well_loss;
     let inflow = record.inflow;
