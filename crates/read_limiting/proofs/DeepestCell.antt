@@ -37,7 +37,7 @@ use Rattle.read_limiting.specs.declared.Limiting.{Limiting}
 use Rattle.read_limiting.specs.Limiting.{foremost, deeperAt, deepestColumn, pastBottomIn}
 use Rattle.read_limiting.specs.Slots.{slotPlace, deeperSlot, Shallow}
 use Rattle.read_limiting.proofs.Foremost.{Foremost, one-foremost, foremost-is}
-use Rattle.read_limiting.proofs.Orders.{deeper-order}
+use Rattle.read_limiting.proofs.Orders.{slot-order, column-order}
 
 pub fewer : {vs : List ℤ} {ss : List ℕ} {n m : ℕ} → Shallow vs ss n → m ≤ n → Shallow vs ss m
 fewer h le = record { loss = λ k lt. h .loss k (omega arith); depth = λ k lt. h .depth k (omega arith) }
@@ -87,8 +87,7 @@ module _ (r : Record) (rate dt : ℕ) (y : Ready r rate dt) where
   best = foremost (deeperSlot vs (r .storages)) 0 last
 
   found : Foremost (deeperSlot vs (r .storages)) 0 last best
-  unfolding deeperSlot
-  found = foremost-is (deeper-order (depthAt vs (r .storages))) 0 last
+  found = foremost-is (slot-order vs (r .storages)) 0 last
 
   same-test : (j k : ℕ) → suc j < r .site .columns → suc k < r .site .columns → deeperAt G after (suc j) (suc k) ≡ deeperSlot vs (r .storages) j k
   unfolding deeperAt deeperSlot
@@ -98,13 +97,13 @@ module _ (r : Record) (rate dt : ℕ) (y : Ready r rate dt) where
   in-columns = omega (arith, found .most, counts .columns-least)
 
   column-is : suc best ≡ deepestColumn G after
-  unfolding deepestColumn deeperAt gridOf
+  unfolding deepestColumn gridOf
   column-is = one-foremost (record {
     least = omega arith;
     most = omega (arith, in-columns);
     none = none;
     first = first;
-  }) (foremost-is (deeper-order (λ j. drawdown N after (place G 0 j))) 1 (r .site .columns - 2))
+  }) (foremost-is (column-order G after) 1 (r .site .columns - 2))
     where
       none : (q : ℕ) → 1 ≤ q → q ≤ 1 + (r .site .columns - 2) → deeperAt G after q (suc best) ≡ false
       none zero l m = absurd (omega arith)

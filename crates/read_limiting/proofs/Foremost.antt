@@ -1,7 +1,6 @@
 -- The first of the numbers k to k + n that no other comes before.
 --     Foremost          what there is to say of it; one-foremost: of no other number
 --     Order             what an order has to be for that; foremost-is: then `foremost` gives it
---     foremost-most     it is among them
 --     foremost-none, foremost-more     one number, and one more; less-more: with the value of f there
 use mathlib.Core.Path.{_≡_, refl, sym, ap, ap₂, _∙_}
 use mathlib.Core.Bool.{Bool, true, false, cond, true≢false}
@@ -48,7 +47,7 @@ module _ {before : ℕ → ℕ → Bool} (o : Order before) where
     replaced e = record {
       least = omega arith;
       most = omega arith;
-      none = λ q least most. none q least most;
+      none = none;
       first = λ q least lt. o .between (k + suc n) q p e (f .none q least (omega arith));
     }
       where
@@ -87,15 +86,6 @@ module _ {before : ℕ → ℕ → Bool} (o : Order before) where
     first = λ q least lt. absurd (omega arith);
   }
   foremost-is k (suc n) = with-next (foremost-is k n) (before (k + suc n) (foremost before k n)) refl
-
-pub foremost-most : (before : ℕ → ℕ → Bool) (k n : ℕ) → foremost before k n ≤ k + n
-unfolding foremost
-foremost-most before k zero = omega arith
-foremost-most before k (suc n) = by-test (foremost-most before k n) (before (k + suc n) (foremost before k n))
-  where
-    by-test : {p : ℕ} → p ≤ k + n → (t : Bool) → cond t (k + suc n) p ≤ k + suc n
-    by-test h true = omega arith
-    by-test h false = omega arith
 
 -- ---- the turns of a loop
 

@@ -1,18 +1,23 @@
 -- The orders that are searched by.
---     less-order        less of a number; deeper-order: larger of an integer
+--     less-order        less of a number
+--     slot-order, column-order     the deeper slot, and the deeper cell of layer 1
+--     not-less, is-less, when-not-less, when-less     the test of two allowed steps, from their numbers and back
 --     shorter-order     the shorter allowed step
 use mathlib.Core.Path.{_≡_, refl}
 use mathlib.Core.Bool.{Bool, true, false, not, _&&_, _||_, false≢true, true≢false}
-use Prim.Native.Nat.{ℕ}
+use mathlib.Core.List.{List}
+use Prim.Native.Nat.{ℕ, _≤_, _<_}
 use native.Mathlib.Omega.{arith}
 use lib.Dec.{ltb}
 use lib.IntN.{ℤ, pos, negsuc}
-use lib.Signed.{_≤ℤ_, ltZ, ltZ-yes, clashℤ}
+use lib.Signed.{ltZ, ltZ-yes, clashℤ}
 use borrow.Author.Tests.{ltb-true, ltb-false, lt-ltb, le-ltb}
 use Rattle.laws.specs.Integer.{not-past, ≤ℤ-trans}
-use Rattle.network.specs.Network.{Network}
-use Rattle.read_limiting.specs.Limiting.{setsLimit, longestAt, shorterAt}
-use Rattle.read_limiting.specs.Slots.{lessAt}
+use Rattle.network.specs.Network.{Network, drawdown}
+use Rattle.network.specs.Grid.{Grid, place, networkOf}
+use Rattle.step_drawdowns.specs.Drawdowns.{depthAt}
+use Rattle.read_limiting.specs.Limiting.{setsLimit, longestAt, shorterAt, deeperAt}
+use Rattle.read_limiting.specs.Slots.{lessAt, deeperSlot}
 use Rattle.read_limiting.proofs.Foremost.{Order}
 
 pub less-order : (f : ℕ → ℕ) → Order (lessAt f)
@@ -34,13 +39,39 @@ past-between : (a b c : ℤ) → ltZ c a ≡ true → ltZ c b ≡ false → (t :
 past-between a b c e g true q = q
 past-between a b c e g false q = clashℤ (ltZ-yes (rw e tt)) (≤ℤ-trans a b c (not-past q) (not-past g))
 
-pub deeper-order : (d : ℕ → ℤ) → Order (λ j k. ltZ (d k) (d j))
+deeper-order : (d : ℕ → ℤ) → Order (λ j k. ltZ (d k) (d j))
 deeper-order d = record {
   turned = λ p q e. above (d q) (d p) e;
   between = λ p q c e g. past-between (d p) (d q) (d c) e g (ltZ (d q) (d p)) refl;
 }
 
+pub slot-order : (vs : List ℤ) (ss : List ℕ) → Order (deeperSlot vs ss)
+unfolding deeperSlot
+slot-order vs ss = deeper-order (depthAt vs ss)
+
+pub column-order : (G : Grid) (vs : List ℤ) → Order (deeperAt G vs)
+unfolding deeperAt
+column-order G vs = deeper-order (λ j. drawdown (networkOf G) vs (place G 0 j))
+
 -- ---- allowed steps, by whether a place sets a limit and by that limit
+
+pub not-less : (a b : Bool) (x y : ℕ) → b ≡ true → (a ≡ true → y ≤ x) → (a && (not b || ltb x y)) ≡ false
+not-less true b x y e h = rw e (le-ltb x y (h refl))
+not-less false b x y e h = refl
+
+pub is-less : (a b : Bool) (x y : ℕ) → a ≡ true → (b ≡ true → x < y) → (a && (not b || ltb x y)) ≡ true
+is-less a true x y e h = rw e (lt-ltb x y (h refl))
+is-less a false x y e h = rw e
+
+pub when-not-less : (a b : Bool) (x y : ℕ) → (a && (not b || ltb x y)) ≡ false → a ≡ true → (b ≡ true) × (y ≤ x)
+when-not-less true true x y e t = (refl, ltb-false x y e)
+when-not-less true false x y e t = absurd (true≢false e)
+when-not-less false b x y e t = absurd (false≢true t)
+
+pub when-less : (a b : Bool) (x y : ℕ) → (a && (not b || ltb x y)) ≡ true → b ≡ true → x < y
+when-less true true x y e t = ltb-true x y e
+when-less true false x y e t = absurd (false≢true t)
+when-less false b x y e t = absurd (false≢true e)
 
 by-turn : (a b : Bool) (x y : ℕ) → (a && (not b || ltb x y)) ≡ true → (b && (not a || ltb y x)) ≡ false
 by-turn true true x y e = le-ltb y x (omega (arith, ltb-true x y e))

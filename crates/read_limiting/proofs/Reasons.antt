@@ -2,7 +2,7 @@
 --     numbers                         an answer of a refusal is that of the number that `step` answers
 --     of-length, of-intake, of-bottom what holds of the place; of-nothing: of the step where there is none
 use mathlib.Core.Path.{_≡_, refl, sym, ap, _∙_}
-use mathlib.Core.Bool.{Bool, true, false, cond, not, _&&_, _||_, true≢false, false≢true}
+use mathlib.Core.Bool.{Bool, true, false, cond, not, _&&_, true≢false}
 use mathlib.Core.Logic.{_⊎_, inl, inr, ⊎-elim}
 use mathlib.Core.List.{List, map, Memᴰ·of-map}
 use Prim.Native.Nat.{ℕ, suc, _*_, _-_, _^_, _≤_, _<_}
@@ -11,7 +11,7 @@ use native.Mathlib.Omega.{arith}
 use lib.Dec.{eqb, leb, ltb}
 use lib.IntN.{ℤ, pos}
 use lib.Signed.{_≤ℤ_, _<ℤ_, ltZ, ltZ-yes, clashℤ}
-use borrow.Author.Tests.{eqb-true, eqb-false, ltb-true, ltb-false, lt-ltb, le-ltb, le-leb, lt-leb, leb-true, ne-eqb}
+use borrow.Author.Tests.{eqb-true, eqb-false, ltb-true, lt-ltb, le-ltb, le-leb, lt-leb, leb-true, ne-eqb}
 use Rattle.laws.specs.All.{all-fails, and-left, and-right}
 use Rattle.laws.specs.Integer.{not-past, ≤ℤ-trans}
 use Rattle.laws.specs.Lists.{range}
@@ -40,7 +40,7 @@ use Rattle.read_limiting.specs.Limiting.{setsLimit, longestAt, shorterAt
 use Rattle.read_limiting.specs.Reason.{numberIn, depthAfter, OfLength, OfBottom, OfNothing, Says, Agrees, Reason}
 use Rattle.read_limiting.proofs.Foremost.{Foremost, foremost-is}
 use Rattle.read_limiting.proofs.Judged.{tests-8, tests-10, tests-11, tests-other}
-use Rattle.read_limiting.proofs.Orders.{deeper-order, shorter-order}
+use Rattle.read_limiting.proofs.Orders.{when-not-less, when-less, column-order, shorter-order}
 use Rattle.read_limiting.proofs.ShortestPlace.{bears-within, steady-within}
 
 module _ (r : Record) (rate dt : ℕ) where
@@ -116,14 +116,9 @@ module _ (r : Record) (rate dt : ℕ) where
     least : (o : ℕ) → o < N .places → shorterAt N o p ≡ false
     least o h = found .none o (omega arith) (omega arith)
 
-    by-limit : (a b : Bool) (x y : ℕ) → (a && (not b || ltb x y)) ≡ false → a ≡ true → (b ≡ true) × (y ≤ x)
-    by-limit true true x y e t = (refl, ltb-false x y e)
-    by-limit true false x y e t = absurd (true≢false e)
-    by-limit false b x y e t = absurd (false≢true t)
-
     within : (o : ℕ) → o < N .places → setsLimit N o ≡ true → (setsLimit N p ≡ true) × (n ≤ longestAt N o)
     unfolding shorterAt
-    within o h e = by-limit (setsLimit N o) (setsLimit N p) (longestAt N o) (longestAt N p) (least o h) e
+    within o h e = when-not-less (setsLimit N o) (setsLimit N p) (longestAt N o) (longestAt N p) (least o h) e
 
     -- so it sets a limit, and one below the length that 8 forbids
     limit : (t : Bool) → setsLimit N p ≡ t → setsLimit N p ≡ true
@@ -141,16 +136,11 @@ module _ (r : Record) (rate dt : ℕ) where
     stands = steady-within N n (λ o h s. within o h s .1)
 
     -- a place before it allows more, or any
-    by-first : (a b : Bool) (x y : ℕ) → (a && (not b || ltb x y)) ≡ true → b ≡ true → x < y
-    by-first true true x y e t = ltb-true x y e
-    by-first false b x y e t = absurd (false≢true e)
-    by-first true false x y e t = absurd (false≢true t)
-
     earlier : (o : ℕ) → o < p → leb (suc n * conductanceSum N o) (10 ^ 6 * storageAt N o) ≡ true
     unfolding shorterAt
-    earlier o h = bears-within N o (suc n) (by-first (setsLimit N p) (setsLimit N o) (longestAt N p) (longestAt N o) (found .first o (omega arith) h))
+    earlier o h = bears-within N o (suc n) (when-less (setsLimit N p) (setsLimit N o) (longestAt N p) (longestAt N o) (found .first o (omega arith) h))
 
-    -- one µs more at that place
+    -- the length at that place, and one µs more
     bearing : leb (n * conductanceSum N p) (10 ^ 6 * storageAt N p) ≡ true
     bearing = bears-within N p n (λ e. omega arith)
 
@@ -215,8 +205,8 @@ module _ (r : Record) (rate dt : ℕ) where
     column = deepestColumn G after
 
     best : Foremost (deeperAt G after) 1 (r .site .columns - 2) column
-    unfolding deepestColumn deeperAt gridOf
-    best = foremost-is (deeper-order D) 1 (r .site .columns - 2)
+    unfolding deepestColumn gridOf
+    best = foremost-is (column-order G after) 1 (r .site .columns - 2)
 
     not-deeper : (j : ℕ) → 1 ≤ j → j < r .site .columns → D j ≤ℤ D column
     unfolding deeperAt

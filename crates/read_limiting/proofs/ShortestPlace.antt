@@ -4,7 +4,7 @@
 --     well-answer                 where the well's is at most each cell's, the well is the place
 --     cell-answer                 where the first of the least cells' is below the well's, that cell is
 use mathlib.Core.Path.{_≡_, refl, sym, ap, ap₂, _∙_}
-use mathlib.Core.Bool.{Bool, true, false, cond, not, _&&_, _||_, true≢false}
+use mathlib.Core.Bool.{Bool, true, false, cond, true≢false}
 use mathlib.Core.Logic.{⊎-elim}
 use Prim.Native.Nat.{ℕ, suc, _+_, _*_, _-_, _/_, _%_, _^_, _≤_, _<_}
 use native.Mathlib.Nat.{le-div-iff-mul-le, mul-le-mul-right}
@@ -12,7 +12,7 @@ use native.Mathlib.Decide.{ℕ-discrete}
 use native.Mathlib.Omega.{arith}
 use lib.Dec.{eqb, leb, ltb}
 use lib.ListN.{getD}
-use borrow.Author.Tests.{ltb-true, ltb-false, lt-ltb, le-ltb, le-leb, lt-leb, eq-eqb, ne-eqb}
+use borrow.Author.Tests.{ltb-true, ltb-false, lt-ltb, le-leb, lt-leb, eq-eqb, ne-eqb}
 use Rattle.laws.specs.Number.{below-or-not}
 use Rattle.laws.specs.Rows.{all-from}
 use Rattle.words.specs.Fitted.{fitted}
@@ -33,7 +33,7 @@ use Rattle.read_limiting.specs.declared.Limiting.{Limiting}
 use Rattle.read_limiting.specs.Limiting.{foremost, setsLimit, longestAt, shorterAt, shortestPlace, nameOf, tooLongIn}
 use Rattle.read_limiting.specs.Slots.{slotPlace, noLimit, inWord, longestWord, cellLongest, lessAt, TooLongFor}
 use Rattle.read_limiting.proofs.Foremost.{Foremost, one-foremost, foremost-is}
-use Rattle.read_limiting.proofs.Orders.{less-order, shorter-order}
+use Rattle.read_limiting.proofs.Orders.{not-less, is-less, less-order, shorter-order}
 
 -- ---- numbers in a word
 
@@ -107,14 +107,6 @@ module _ (c s : ℕ) where
 
 -- ---- of two places the one with the shorter step
 
-none-of : (a b : Bool) (x y : ℕ) → b ≡ true → (a ≡ true → y ≤ x) → (a && (not b || ltb x y)) ≡ false
-none-of true b x y e h = rw e (le-ltb x y (h refl))
-none-of false b x y e h = refl
-
-first-of : (a b : Bool) (x y : ℕ) → a ≡ true → (b ≡ true → x < y) → (a && (not b || ltb x y)) ≡ true
-first-of a true x y e h = rw e (lt-ltb x y (h refl))
-first-of a false x y e h = rw e
-
 module _ (N : Network) where
   abbrev pub word : ℕ → ℕ
   word p = longestWord (conductanceSum N p) (storageAt N p)
@@ -129,13 +121,13 @@ module _ (N : Network) where
 
   not-shorter : (p q : ℕ) → word p < noLimit → word p ≤ word q → shorterAt N q p ≡ false
   unfolding shorterAt
-  not-shorter p q h k = none-of (setsLimit N q) (setsLimit N p) (longestAt N q) (longestAt N p) (limited p h .0) (λ e. omega (arith, limited p h .1, k, longer q e))
+  not-shorter p q h k = not-less (setsLimit N q) (setsLimit N p) (longestAt N q) (longestAt N p) (limited p h .0) (λ e. omega (arith, limited p h .1, k, longer q e))
 
   is-shorter : (p q : ℕ) → word p < word q → shorterAt N p q ≡ true
   unfolding shorterAt
   is-shorter p q h =
       let k : word p < noLimit = omega (arith, word-fits (conductanceSum N q) (storageAt N q)) in
-      first-of (setsLimit N p) (setsLimit N q) (longestAt N p) (longestAt N q) (limited p k .0) (λ e. omega (arith, limited p k .1, h, longer q e))
+      is-less (setsLimit N p) (setsLimit N q) (longestAt N p) (longestAt N q) (limited p k .0) (λ e. omega (arith, limited p k .1, h, longer q e))
 
   -- a place bears a step that is within its longest, where it sets a limit
   pub bears-within : (p n : ℕ) → (setsLimit N p ≡ true → n ≤ longestAt N p) → leb (n * conductanceSum N p) (10 ^ 6 * storageAt N p) ≡ true
@@ -221,7 +213,7 @@ module _ (r : Record) (h : TooLongFor r) where
   cell-least : (i j : ℕ) → i < r .site .layers → suc j < r .site .columns → f best ≤ word N (place G i (suc j))
   cell-least i j hi hj = rw (cell-word i j hi hj) at (best-least (50 * i + j) (omega (arith, counts .columns-most)))
 
-  -- what each place has, some place has less than no limit, since 8 forbids a step
+  -- what no place has less than is below no limit, since 8 forbids a step
   some-limit : (w : ℕ) → ((p : ℕ) → p < N .places → w ≤ word N p) → w < noLimit
   unfolding noLimit
   some-limit w least = ⊎-elim (λ lt. lt) (λ le. absurd (true≢false (sym (steady-within N (h .length) (λ p below e. omega (arith, h .limited, le, least p below, longer N p e))) ∙ h .unsteady))) (below-or-not w noLimit)

@@ -6,7 +6,8 @@ use native.Mathlib.Omega.{arith}
 use Rattle.read_limiting.specs.Limiting.{foremost}
 use Rattle.read_limiting.specs.Slots.{deeperSlot}
 use Rattle.read_limiting.proofs.DeepestCell.{fewer}
-use Rattle.read_limiting.proofs.Foremost.{foremost-most, foremost-none, foremost-more}
+use Rattle.read_limiting.proofs.Foremost.{foremost-is, foremost-none, foremost-more}
+use Rattle.read_limiting.proofs.Orders.{slot-order}
 use Rattle.read_limiting.proofs.deepest_slot.Statement.{statement}
 use Rattle.read_limiting.proofs.deepest_slot.Tie as tie
 
@@ -21,7 +22,7 @@ loop-holds c = (omega arith, omega (arith, c .pre .0), sym (foremost-none _ 0))
 
 deeper-requires : tie.Need-deeper-requires Inv-loop μ-loop
 deeper-requires c κs = let at = c .before in
-    let first : at .loop .best ≤ 0 + (at .loop .k - 1) = omega (arith, at .loop .inv .2, foremost-most (deeperSlot (at .before .args .losses .now) (at .before .args .storages .now)) 0 (at .loop .k - 1)) in
+    let first : at .loop .best ≤ 0 + (at .loop .k - 1) = omega (arith, at .loop .inv .2, foremost-is (slot-order (at .before .args .losses .now) (at .before .args .storages .now)) 0 (at .loop .k - 1) .most) in
     (omega (arith, first, at .loop .inv .0), omega arith, fewer (at .before .pre .2) (omega arith))
 
 add-k : tie.Need-add-k Inv-loop μ-loop
@@ -46,7 +47,7 @@ returns c =
     let end : at .loop .k ≡ at .before .args .n = omega arith in
     let before = deeperSlot (at .before .args .losses .now) (at .before .args .storages .now) in
     let e : at .loop .best ≡ foremost before 0 (at .before .args .n - 1) = at .loop .inv .2 ∙ ap (λ n. foremost before 0 (n - 1)) end in
-    (e, omega (arith, e, foremost-most before 0 (at .before .args .n - 1), at .before .pre .0))
+    (e, omega (arith, e, foremost-is (slot-order (at .before .args .losses .now) (at .before .args .storages .now)) 0 (at .before .args .n - 1) .most, at .before .pre .0))
 
 pub deepest-slot-spec : {M : Type 1} → statement M
 deepest-slot-spec =

@@ -4,7 +4,8 @@ use Prim.Native.Nat.{_+_, _-_, _≤_}
 use native.Mathlib.Omega.{arith}
 use Rattle.read_limiting.specs.Limiting.{foremost}
 use Rattle.read_limiting.specs.Slots.{cellLongest, lessAt}
-use Rattle.read_limiting.proofs.Foremost.{foremost-most, foremost-none, less-more}
+use Rattle.read_limiting.proofs.Foremost.{foremost-is, foremost-none, less-more}
+use Rattle.read_limiting.proofs.Orders.{less-order}
 use Rattle.read_limiting.proofs.shortest_cell.Statement.{statement}
 use Rattle.read_limiting.proofs.shortest_cell.Tie as tie
 
@@ -49,10 +50,10 @@ returns c =
     let at = c .before in
     let s = at .before .before in
     let a = s .args in
-    let before = lessAt (cellLongest (a .columns) (a .screen .now) (a .horizontal .now) (a .vertical .now) (a .storages .now)) in
+    let f = cellLongest (a .columns) (a .screen .now) (a .horizontal .now) (a .vertical .now) (a .storages .now) in
     let end : at .loop .k ≡ a .n = omega arith in
-    let e : at .loop .best .slot ≡ foremost before 0 (a .n - 1) = at .loop .inv .2 ∙ ap (λ n. foremost before 0 (n - 1)) end in
-    ((e, omega (arith, e, foremost-most before 0 (a .n - 1), s .pre .0)), at .loop .inv .3)
+    let e : at .loop .best .slot ≡ foremost (lessAt f) 0 (a .n - 1) = at .loop .inv .2 ∙ ap (λ n. foremost (lessAt f) 0 (n - 1)) end in
+    ((e, omega (arith, e, foremost-is (less-order f) 0 (a .n - 1) .most, s .pre .0)), at .loop .inv .3)
 
 pub shortest-cell-spec : {M : Type 1} → statement M
 shortest-cell-spec =
