@@ -1,5 +1,5 @@
 -- The cases that document 01 marks K, with what document 02 changes of them: what the definitions give for bore K beside what the documents say, and one
--- statement.
+-- statement. One row more is not marked K: bore K cannot see which of its two equal Kv stands where.
 use mathlib.Core.Path.{_≡_, refl, sym, ap, ap₂, subst, fun-ext, _∙_}
 use mathlib.Core.List.{List, [], _∷_, _++_, map, map-append, flatMap}
 use Prim.Native.Nat.{ℕ, zero, suc}
@@ -24,7 +24,7 @@ use Rattle.scenario.specs.Scenario.{startOf}
 use Rattle.step_rules.specs.Step.{stepOf}
 use Rattle.start_laws.specs.Laws.{Carries, network-is, begun}
 use Rattle.start_laws.specs.Steps.{stateAfter, outcome-is, carries-on}
-use Rattle.cases.specs.BoreK.{boreK, numbersK}
+use Rattle.cases.specs.BoreK.{boreK, numbersK, numbersApart}
 use Rattle.cases.specs.Started.{scenario-K, started}
 
 -- a row: what the definitions give, and what the documents say
@@ -87,8 +87,14 @@ rows text =
     ++ faceRows (gridOf before) (networkOf (gridOf before)) (stateOf before .losses)
     ++ depthRows (gridOf after) (networkOf (gridOf after)) (stateOf after .losses)
 
+-- the row that is not marked K: C in use between layers 1 and 2 of column 1, at D 2000000 µm in layer 1, for Kv_1 10000 and Kv_2 40000, b_1 10000 and b_2 2000.
+-- By hand, with A_1 = 753982 as above: s is 1000×10000 − 2000000 = 8000000, the divisor 8000000×40000 + 500×2000×10000 = 33×10^10, the dividend
+-- 753982×1000×10000×40000 = 30159280×10^10, and 30159280/33 is 913917 and 19/33. With the two Kv exchanged the divisor is 12×10^10, and C 2513273
+unfoldable pub apartRows : Grid → List Row
+apartRows G = (inUse (networkOf G) (downFace G 0 1) (pos 2000000) (pos 0), pos 913917) ∷ []
+
 unfoldable pub table : List Row
-table = rows boreK
+table = rows boreK ++ apartRows (scenarioGrid (siteOf numbersApart))
 
 -- the definitions give what the document says, row by row
 unfoldable pub Agree : List Row → Type 0
@@ -204,7 +210,12 @@ both : (l m : List Row) → Agree l → Agree m → Agree (l ++ m)
 unfolding Agree
 both l m p q = simp map-append (ap₂ _++_ p q)
 
--- every case that is marked K
+-- the row that is not marked K
+apart-agrees : Agree (apartRows (scenarioGrid (siteOf numbersApart)))
+unfolding Agree apartRows numbersApart numbersK padded range place placeCount downRule downFace networkOf area fromTable sectionCount sectionOf restOf fromColumns fromWell fromLoss field siteOf areaAt downOf scenarioGrid saturated atTable inUseBy inUse
+apart-agrees = refl
+
+-- every case that is marked K, and that row
 pub agrees : Agree table
 unfolding table rows
-agrees = both _ _ (both _ _ (both _ _ answer-agrees (length-agrees _ at-start)) (faces-agree _ after-2)) (depth-agrees _ after-3)
+agrees = both _ _ (both _ _ (both _ _ (both _ _ answer-agrees (length-agrees _ at-start)) (faces-agree _ after-2)) (depth-agrees _ after-3)) apart-agrees

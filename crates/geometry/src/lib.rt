@@ -101,6 +101,12 @@ pub fn from_table(a: u64, kv1: u64, b2: u64, kv2: u64, s: u64) -> Quotient
     through_both(a * 1000, kv1, kv2, s * kv2 + 500 * b2 * kv1)
 }
 
+// That C where Kv_1 and Kv_2 differ, by the figure that is worked by hand in `cases` Table: over 753982 mm², with Kv_1 10000, b_2 2000, Kv_2 40000 and s 8000000.
+// A theorem, and no code.
+pub fn table_case()
+    ensures { λ r. ⌜ fromTable 753982 10000 2000 40000 8000000 ≡ 913917 ⌝ }
+{}
+
 // S of a cell of layer 1.
 pub fn unconfined_storage(a: u64, y: u64) -> Quotient
     ensures { λ r. ⌜ r ≡ fitted (unconfinedStorage a y) ⌝ }

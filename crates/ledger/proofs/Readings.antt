@@ -1,7 +1,6 @@
 -- Readings of a record that carries the ledger's state: laws only, nothing to believe.
 --     told-depth, told-budget, ..           each reading answers what the ledger has for it
 --     same-budget, same-loss, same-depth    so where it is given, it gives what the ledger's network and state give
---     named-place                           what is named is a place
 --     set-inside, set-loss                  the set that bytes give has places only; its storage loss is that of the bytes
 use mathlib.Core.Path.{_≡_, refl, ap, fun-ext, _∙_}
 use mathlib.Core.Bool.{Bool, true, false, cond, not, _&&_, _||_, false≢true}
@@ -23,7 +22,6 @@ use Rattle.network.specs.Network.{Network, State, isPlace, lossAt, lossIn, loss
 use Rattle.network.specs.Network as network
 use Rattle.network.specs.Grid.{Grid, layersOf, storedColumns, placeCount, place, onePerPlace, downRule, acrossFace, downFace, networkOf}
 use Rattle.network.specs.laws.Ends.{Inside}
-use Rattle.network.specs.laws.Places.{place-below}
 use Rattle.site.specs.declared.Site.{Site}
 use Rattle.site.specs.Site.{isScreened}
 use Rattle.record.specs.declared.Record.{Record}
@@ -33,6 +31,7 @@ use Rattle.coefficients.specs.Coefficients.{scenarioGrid}
 use Rattle.readings.specs.declared.Place.{Place}
 use Rattle.readings.specs.declared.Place.the-variants.{Well, Cell}
 use Rattle.readings.specs.Readings.{amountOf, balanceOf, samenessOf, isLayer, isStored, isNamed, numberOf, totalsIn, drawdownOf, budgetOf, setOf, lossOf, leads, faceFrom, waterFrom, flowOf, deepCountIn, deepCount, deepRefusal, codesAt, deepCodesIn, deepCodes, listedOf, deepOf, sameRecord, sameOf}
+use Rattle.readings.specs.Laws.{equal-counts, equal-names, equal-places, equal-numbers}
 use Rattle.hydraulics.specs.Hydraulics.{inflowOf}
 use Rattle.pipe.specs.Laws.{pipe-loss-same}
 use Rattle.read_head_loss.specs.HeadLoss.{waterInto, lossesAt, lossAnswerOf, isScreenedLayer, headLossRefusal, headLossOf}
@@ -69,26 +68,19 @@ module _ {scenario : Site} {s : State} {r : Record} (h : Carries scenario s r) w
   same-screened i = ap (λ t. isScreened (t .screened) i) (h .site)
 
   same-count : placeCount (gridOf r) ≡ placeCount G
-  unfolding placeCount
-  same-count = rw (same-layers, same-columns)
+  same-count = equal-counts (gridOf r) G same-layers same-columns
 
   same-name : (p : Place) → isNamed (gridOf r) p ≡ isNamed G p
-  unfolding isNamed isLayer isStored
-  same-name Well = refl
-  same-name (Cell i j) = rw (same-layers, same-columns)
+  same-name = equal-names (gridOf r) G same-layers same-columns
 
   same-place : (i j : ℕ) → place (gridOf r) i j ≡ place G i j
-  unfolding place
-  same-place i zero = refl
-  same-place i (suc j) = rw (same-count, same-columns)
+  same-place = equal-places (gridOf r) G same-layers same-columns
 
   same-places : place (gridOf r) ≡ place G
   same-places = fun-ext (λ i. fun-ext (same-place i))
 
   same-number : (p : Place) → numberOf (gridOf r) p ≡ numberOf G p
-  unfolding numberOf
-  same-number Well = refl
-  same-number (Cell i j) = same-place _ j
+  same-number = equal-numbers (gridOf r) G same-layers same-columns
 
   -- ---- drawdown, budget, storage loss
 
@@ -290,18 +282,6 @@ module _ {scenario : Site} {s : State} {r : Record} (h : Carries scenario s r) w
     pub told-limiting : limitingOf r rate dt ≡ limitingIn G (s .losses) rate dt (refusal N s rate dt)
     unfolding limitingOf
     told-limiting = rw (h .state, refusal-is h rate dt) (same-limiting (refusal N s rate dt))
-
--- what is named is a place
-pub named-place : (G : Grid) (p : Place) → isNamed G p ≡ true → numberOf G p < networkOf G .places
-unfolding isNamed isLayer isStored numberOf networkOf placeCount
-named-place G Well e = omega arith
-named-place G (Cell i zero) e = absurd (false≢true (and-right (leb 1 i && leb i (G .layers)) false e))
-named-place G (Cell i (suc j)) e =
-    let layer = and-left (leb 1 i && leb i (G .layers)) (leb 1 (suc j) && ltb (suc j) (G .columns)) e in
-    let column = and-right (leb 1 i && leb i (G .layers)) (leb 1 (suc j) && ltb (suc j) (G .columns)) e in
-    place-below G (i - 1) j
-    (omega (arith, leb-true 1 i (and-left (leb 1 i) (leb i (G .layers)) layer), leb-true i (G .layers) (and-right (leb 1 i) (leb i (G .layers)) layer)))
-    (ltb-true (suc j) (G .columns) (and-right (leb 1 (suc j)) (ltb (suc j) (G .columns)) column))
 
 -- ---- the set that bytes give
 module _ (N : Network) (bytes : List ℕ) where

@@ -80,7 +80,7 @@ module _ (scenario : Site) where
   }
     where
       more : List Accepted
-      more = record { before = s; rate = rate; length = dt } ∷ []
+      more = record { before = s; rate = rate; dt = dt } ∷ []
 
       stepped : (t : Bool) → (t ≡ true → refusal N s rate dt ≡ 0) → Steps N (atRest N) (ts ++ cond t more []) (cond t (moved N s rate dt) s)
       stepped true e = one-more N rate dt (h .steps) (e refl)
@@ -102,8 +102,8 @@ module _ (scenario : Site) where
   accepted-first s (read q) cs = refl
   accepted-first s (step rate dt) cs = by-test (eqb (refusal N s rate dt) 0)
     where
-      by-test : (t : Bool) → cond t (record { before = s; rate = rate; length = dt } ∷ acceptedFrom N (moved N s rate dt) cs) (acceptedFrom N s cs)
-          ≡ cond t (record { before = s; rate = rate; length = dt } ∷ []) [] ++ acceptedFrom N (cond t (moved N s rate dt) s) cs
+      by-test : (t : Bool) → cond t (record { before = s; rate = rate; dt = dt } ∷ acceptedFrom N (moved N s rate dt) cs) (acceptedFrom N s cs)
+          ≡ cond t (record { before = s; rate = rate; dt = dt } ∷ []) [] ++ acceptedFrom N (cond t (moved N s rate dt) s) cs
       by-test true = refl
       by-test false = refl
 

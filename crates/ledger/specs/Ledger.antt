@@ -49,13 +49,13 @@ outcomesFrom N s (read q ∷ cs) = outcomesFrom N s cs
 pub record Accepted : Type 0 where
   pub before : State
   pub rate : ℕ
-  pub length : ℕ
+  pub dt : ℕ
 
 unfoldable pub acceptedFrom : Network → State → List Call → List Accepted
 acceptedFrom N s [] = []
 acceptedFrom N s (step rate dt ∷ cs) =
     cond (eqb (refusal N s rate dt) 0)
-    (record { before = s; rate = rate; length = dt } ∷ acceptedFrom N (moved N s rate dt) cs)
+    (record { before = s; rate = rate; dt = dt } ∷ acceptedFrom N (moved N s rate dt) cs)
     (acceptedFrom N s cs)
 acceptedFrom N s (read q ∷ cs) = acceptedFrom N s cs
 
@@ -64,7 +64,7 @@ acceptedOf text calls = acceptedFrom (networkFrom text) (atRest (networkFrom tex
 
 -- the water pumped: rate × Δt over accepted steps
 unfoldable pub pumpedBy : List Accepted → ℕ
-pumpedBy steps = sumℕ steps λ t. t .rate * t .length
+pumpedBy steps = sumℕ steps λ t. t .rate * t .dt
 
 -- whether p is in the set that bytes give; the last column is in no set
 unfoldable pub inSet : Network → List ℕ → ℕ → Bool
@@ -72,9 +72,9 @@ inSet N bytes p = isPlace N p && setOf bytes p
 
 -- the net water in: over accepted steps and border faces, the flow toward the end inside
 unfoldable pub netInto : Network → (ℕ → Bool) → List Accepted → ℤ
-netInto N s steps = sumℤ steps λ t. inward N s (flow N (t .before .losses) (t .length))
+netInto N s steps = sumℤ steps λ t. inward N s (flow N (t .before .losses) (t .dt))
 
 -- the largest D that the well has had: at the start, where it is 0, and after each accepted step
 unfoldable pub greatest : Network → List Accepted → ℤ
 greatest N [] = drawdown N (atRest N .losses) 0
-greatest N (t ∷ steps) = larger (drawdown N (moved N (t .before) (t .rate) (t .length) .losses) 0) (greatest N steps)
+greatest N (t ∷ steps) = larger (drawdown N (moved N (t .before) (t .rate) (t .dt) .losses) 0) (greatest N steps)

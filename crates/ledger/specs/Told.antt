@@ -13,7 +13,7 @@ use Rattle.network.specs.Network.{Network, State, lossIn, lengthOut, unstable, 
 use Rattle.network.specs.Network as network
 use Rattle.network.specs.Grid.{Grid, placeCount, networkOf}
 use Rattle.site.specs.declared.Site.{Site}
-use Rattle.record.specs.declared.Answer.{Answer}
+use Rattle.record.specs.declared.Record.{Record}
 use Rattle.record.specs.Record.{stateOf, outcomeOf}
 use Rattle.validity.specs.Validity.{valid}
 use Rattle.coefficients.specs.Coefficients.{scenarioGrid, startRecord}
@@ -36,13 +36,17 @@ module _ (scenario : Site) (steps : List Accepted) (s : State) where
   abbrev pub stepsAfter : Call → List Accepted
   stepsAfter c = steps ++ acceptedFrom N s (c ∷ [])
 
+  -- the record that a call leaves: it holds this scenario with its C and S, the ledger's losses, totals and time after the call, and the largest D that the
+  -- ledger's well has had then
+  abbrev pub recordAfter : Call → Record
+  recordAfter c = holding (startRecord scenario) (afterCall N s c) (greatest N (stepsAfter c))
+
   -- what the reply to one call is, in the state s after these accepted steps
   unfoldable pub Tells : Call → Reply → Type 0
-  -- a step: the outcome by the ledger's judgement, and a record with the ledger's losses, totals and time after the call, of which the mark is the
-  -- largest D that the ledger's well has had
+  -- a step: the outcome by the ledger's judgement, and that record; its losses, totals and time are the ledger's
   Tells (step rate dt) reply =
-      (answer : Answer) × (reply ≡ stepped answer) × (answer .outcome ≡ outcomeOf (refusal N s rate dt)) × (stateOf (answer .«record») ≡ afterCall N s (step rate dt))
-      × (answer .«record» .mark ≡ greatest N (stepsAfter (step rate dt)))
+      (reply ≡ stepped (record { outcome = outcomeOf (refusal N s rate dt); «record» = recordAfter (step rate dt) }))
+      × (stateOf (recordAfter (step rate dt)) ≡ afterCall N s (step rate dt))
   -- the drawdown at a place; 12 for no such place
   Tells (read (drawdown p)) reply = reply ≡ amount (amountOf (first ((not (isNamed G p), 12) ∷ [])) (network.drawdown N (s .losses) (numberOf G p)))
   -- the pumped total, the well's loss, all cells' loss, the inflow total and the largest D that the well has had; never refused

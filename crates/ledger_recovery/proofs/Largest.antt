@@ -10,17 +10,16 @@ use Prim.Native.Nat.{ℕ, zero, suc, _+_, _-_, _≤_, _<_, zero-le}
 use native.Mathlib.Omega.{arith}
 use lib.IntN.{ℤ}
 use lib.Signed.{leZ, _≤ℤ_, ≤ℤ-refl}
-use borrow.Author.Tests.{le-leb, lt-ltb}
 use Rattle.laws.specs.Integer.{≤ℤ-trans, larger-first, larger-second, larger-bounds}
 use Rattle.laws.specs.Lists.{larger}
-use Rattle.laws.specs.Rows.{both-hold}
 use Rattle.laws.specs.Sums.{mem-range, range-mem, range-below, mem-flatMap, flatMap-mem}
 use Rattle.network.specs.Network.{drawdown}
 use Rattle.network.specs.Grid.{Grid, storedColumns, layersOf, placeCount, place, networkOf}
 use Rattle.network.specs.laws.Places.{place-below, by-place}
 use Rattle.readings.specs.declared.Place.{Place}
 use Rattle.readings.specs.declared.Place.the-variants.{Well, Cell}
-use Rattle.readings.specs.Readings.{isLayer, isStored, isNamed, numberOf}
+use Rattle.readings.specs.Readings.{isNamed, numberOf}
+use Rattle.readings.specs.Laws.{cell-named, cell-number}
 use Rattle.ledger_recovery.specs.Recovery.{largestOf, cellDepths, largestIn}
 
 -- ---- of a list
@@ -85,12 +84,7 @@ module _ (G : Grid) (vs : List ℤ) where
   Named y = (p : Place) × (isNamed G p ≡ true) × (D (numberOf G p) ≡ y)
 
   pub largest-named : Named (largestIn G vs)
-  unfolding largestIn isNamed isLayer isStored numberOf
-  largest-named = one-of Named (D 0) (cellDepths G vs) (Well, refl, refl) (in-cell Named named)
-    where
-      named : (i r : ℕ) → i < G .layers → suc r < G .columns → Named (D (place G i (suc r)))
-      named i r h k = (
-        Cell (suc i) (suc r),
-        both-hold (both-hold (le-leb 1 (suc i) (omega arith)) (le-leb (suc i) (G .layers) (omega arith))) (both-hold (le-leb 1 (suc r) (omega arith)) (lt-ltb (suc r) (G .columns) k)),
-        ap (λ n. D (place G n (suc r))) (omega arith),
-      )
+  unfolding largestIn isNamed numberOf
+  largest-named =
+      one-of Named (D 0) (cellDepths G vs) (Well, refl, refl)
+      (in-cell Named (λ i r h k. (Cell (suc i) (suc r), cell-named G i r h k, ap D (cell-number G i r))))

@@ -31,9 +31,9 @@ use Rattle.validity.specs.Laws.{Valid, valid-record, valid-proper}
 use Rattle.step_rules.specs.Step.{withState, stepRefusal, stepOf}
 use Rattle.step_rules.specs.Laws.{step-outcome, same-grid, taken, state-is, step-valid}
 use Rattle.readings.specs.declared.Place.{Place}
-use Rattle.readings.specs.Readings.{amountOf, balanceOf, isNamed, numberOf, totalsIn, drawdownOf, budgetOf}
+use Rattle.readings.specs.Readings.{amountOf, balanceOf, numberOf, totalsIn, drawdownOf, budgetOf}
+use Rattle.readings.specs.Laws.{named-place, read-depth}
 use Rattle.ledger.specs.Calls.{Call, step, read, left, leftByAll}
-use Rattle.ledger.proofs.Readings.{named-place}
 use Rattle.ledger_recovery.specs.Recovery.{isAtRest, largest, Reads, Between, Each, nothing, further, lost}
 use Rattle.ledger_recovery.proofs.Largest.{largest-above, largest-least, largest-named}
 
@@ -77,13 +77,9 @@ module _ (r : Record) (ok : valid r ≡ true) where
   proper = valid-proper r known
 
   -- what is read of it
-  pub read-depth : (p : Place) → isNamed (gridOf r) p ≡ true → drawdownOf r p ≡ amountOf 0 (D r (numberOf (gridOf r) p))
-  unfolding drawdownOf first
-  read-depth p e = rw (ok, e)
-
   pub read-deepest : (p : Place) × (drawdownOf r p ≡ amountOf 0 (largest r))
   unfolding largest
-  read-deepest = let d = largest-named (gridOf r) (stateOf r .losses) in (d .0, read-depth (d .0) (d .1) ∙ ap (amountOf 0) (d .2))
+  read-deepest = let d = largest-named (gridOf r) (stateOf r .losses) in (d .0, read-depth r ok (d .0) (d .1) ∙ ap (amountOf 0) (d .2))
 
   pub below-largest : (p : ℕ) → p < N r .places → D r p ≤ℤ largest r
   unfolding largest networkOf
@@ -97,7 +93,7 @@ module _ (r : Record) (ok : valid r ≡ true) where
   reads = record {
     totals = totalsIn (N r) (stateOf r) (r .mark);
     budget = read-budget;
-    depth = λ p e. (D r (numberOf (gridOf r) p), read-depth p e, below-largest (numberOf (gridOf r) p) (named-place (gridOf r) p e));
+    depth = λ p e. (D r (numberOf (gridOf r) p), read-depth r ok p e, below-largest (numberOf (gridOf r) p) (named-place (gridOf r) p e));
     deepest = read-deepest;
   }
 

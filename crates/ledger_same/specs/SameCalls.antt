@@ -1,10 +1,12 @@
 -- The same list of calls, made on one record and on another (document 02, N10): with equal arguments beside the record, each on the record that the last
 -- one left.
-use mathlib.Core.List.{List, [], _∷_}
-use Prim.Native.Nat.{ℕ}
+use mathlib.Core.Path.{_≡_}
+use mathlib.Core.List.{List, [], _∷_, getLastD}
+use Prim.Native.Nat.{ℕ, suc, _<_}
+use lib.ListN.{length, getD, take}
 use Rattle.record.specs.declared.Record.{Record}
 use Rattle.readings.specs.declared.Place.{Place}
-use Rattle.ledger.specs.Calls.{drawdown, budget, loss, flow, deep, same, sameAs, headLoss, limiting, Call, step, read, left}
+use Rattle.ledger.specs.Calls.{drawdown, budget, loss, flow, deep, same, sameAs, headLoss, limiting, Call, step, read, left, leftByAll}
 
 -- two calls of one kind with equal arguments: numbers, places, the bytes of a set, a lent list as it is before the call, another record
 pub data SameCall : Call → Call → Type 0 where
@@ -27,3 +29,12 @@ pub data SameCalls : List Call → List Call → Type 0 where
 unfoldable pub recordsAfter : Record → List Call → List Record
 recordsAfter r [] = []
 recordsAfter r (c ∷ cs) = left r c ∷ recordsAfter (left r c) cs
+
+-- what that list has to be, by what demand 3 says that calls leave (`leftByAll`)
+pub record AfterEach (r : Record) (calls : List Call) (records : List Record) : Type 0 where
+  -- as many records as calls
+  pub count : length records ≡ length calls
+  -- number k, counted from 0, is what the calls up to number k leave
+  pub each : (k : ℕ) → k < length calls → getD records k r ≡ leftByAll r (take (suc k) calls)
+  -- and so the last is what all of them leave; without a call that is r
+  pub last : getLastD records r ≡ leftByAll r calls

@@ -1,6 +1,7 @@
 -- Document 01's rule of same: equal layer and column counts, and equal D everywhere. By document 02 (N10) no call answers by it any more; it is here for
 -- N10's second clause, "the new yes implies the old". D is in µm.
-use mathlib.Core.Bool.{Bool, not, _&&_}
+use mathlib.Core.Path.{_≡_}
+use mathlib.Core.Bool.{Bool, true, not, _&&_, _||_}
 use mathlib.Core.List.{[], _∷_}
 use lib.Dec.{eqb}
 use Rattle.laws.specs.Lists.{allBelow, first}
@@ -9,8 +10,17 @@ use Rattle.network.specs.Grid.{placeCount, networkOf}
 use Rattle.record.specs.declared.Record.{Record}
 use Rattle.record.specs.Record.{gridOf, stateOf}
 use Rattle.validity.specs.Validity.{equalℤ, valid}
+use Rattle.readings.specs.declared.Place.{Place}
 use Rattle.readings.specs.declared.Sameness.{Sameness}
-use Rattle.readings.specs.Readings.{samenessOf}
+use Rattle.readings.specs.Readings.{samenessOf, isNamed, drawdownOf}
+
+-- the rule in what the drawdown reading answers: at every place that either record has it gives the same of both
+pub record SameDrawdowns (r q : Record) : Type 0 where
+  pub layers : r .site .layers ≡ q .site .layers
+  pub columns : r .site .columns ≡ q .site .columns
+  pub depths : (p : Place) → (isNamed (gridOf r) p || isNamed (gridOf q) p) ≡ true → drawdownOf r p ≡ drawdownOf q p
+
+-- ---- the same as a test, by which `same` answered
 
 -- equal D at each place
 unfoldable pub sameDepths : Record → Record → Bool

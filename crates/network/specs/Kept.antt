@@ -1,4 +1,5 @@
--- What refusal 14 asks of the part of a record that a step moves, and what the laws of a step ask of a network.
+-- What refusal 14 asks of losses, totals, time and drawdowns, which a step moves, and what the laws of a step ask of a network. What 14 asks of the mark, which
+-- a step raises (N1), is not among it: `validity` Laws has it as Marked.
 use mathlib.Core.Path.{_≡_}
 use mathlib.Core.Bool.{false}
 use mathlib.Core.Logic.{_⊎_}

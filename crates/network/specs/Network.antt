@@ -35,7 +35,7 @@ pub record Network : Type 0 where
   pub table : List ℕ  -- the places of layer 1, where the water table is
   pub intake : ℕ  -- p, depth of the intake
 
--- What a step moves.
+-- What a step moves, but for the record's mark (N1), which is worked from the well's D after it (`step_rules` Step).
 pub record State : Type 0 where
   pub losses : List ℤ  -- V, one for each place
   pub pumped : ℕ  -- pumped total

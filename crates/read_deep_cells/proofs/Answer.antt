@@ -49,7 +49,7 @@ module _ (r : Record) (D : ℕ) (old : List ℕ) where
   unfolding countOf
   whole e = rw (← accepted e) (record {
     answered = ap Count.Given (sym (ap length front ∙ count));
-    slots = omega (arith, length-append (deepCodes r D) rest, length-drop (length (deepCodes r D)) old, count, a .1);
+    slots = as-long;
     rest = drop-at (deepCodes r D) rest (deepCount r D) count ∙ ap (λ n. drop n old) count;
     arranged = rw front (record { once = deep-times r (a .0) D; order = deep-order r (a .0) D });
     only = λ l h. only-arranged r (a .0) D l h ∙ sym front;
@@ -63,6 +63,9 @@ module _ (r : Record) (D : ℕ) (old : List ℕ) where
 
       count : length (deepCodes r D) ≡ deepCount r D
       count = deep-length r (a .0) D
+
+      as-long : length (deepCodes r D ++ rest) ≡ length old
+      as-long = omega (arith, length-append (deepCodes r D) rest, length-drop (length (deepCodes r D)) old, count, a .1)
 
       front : take (deepCount r D) (deepCodes r D ++ rest) ≡ deepCodes r D
       front = take-at (deepCodes r D) rest (deepCount r D) count

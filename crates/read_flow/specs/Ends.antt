@@ -1,10 +1,10 @@
--- The ends of a face in the arrays of a record: for the inner contracts of this crate. And the answer where the ends are named the other way round.
+-- The ends of a face in the arrays of a record: for the inner contracts of this crate.
 use mathlib.Core.Path.{_≡_}
 use mathlib.Core.Bool.{Bool, true, cond, _&&_}
 use mathlib.Core.List.{List}
 use Prim.Native.Nat.{ℕ, _*_, _-_, _^_, _≤_, _<_}
 use lib.Dec.{eqb, leb}
-use lib.IntN.{ℤ, pos, negℤ}
+use lib.IntN.{ℤ, pos}
 use lib.ListN.{getD}
 use Rattle.network.specs.Network.{Rule, inUseBy}
 use Rattle.site.specs.declared.Site.{Site}
@@ -13,7 +13,6 @@ use Rattle.record.specs.Record.{slot}
 use Rattle.coefficient_cells.specs.Cells.{downOf}
 use Rattle.readings.specs.declared.Place.{Place}
 use Rattle.readings.specs.declared.Place.the-variants.{Well, Cell}
-use Rattle.readings.specs.declared.Amount.{Amount}
 
 -- a cell, from layer 1 and column 1, has a slot
 unfoldable pub inSlots : Place → Bool
@@ -51,8 +50,3 @@ InLayer s e D = (j : ℕ) → e ≡ Cell 1 j → D ≤ 1000 * getD (s .thickness
 
 abbrev pub TableFits : Site → Place → Type 0
 TableFits s e = (j : ℕ) → e ≡ Cell 1 j → (j < s .columns) × (downOf s 0 j < 2 ^ 64)
-
--- the number with the other sign, or the same refusal
-unfoldable pub opposite : Amount → Amount
-opposite (Amount.Given x) = Amount.Given (negℤ x)
-opposite (Amount.Refused n) = Amount.Refused n

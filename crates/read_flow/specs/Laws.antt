@@ -25,7 +25,7 @@ use Rattle.validity.specs.Validity.{valid}
 use Rattle.readings.specs.declared.Place.{Place}
 use Rattle.readings.specs.declared.Place.the-variants.{Well, Cell}
 use Rattle.readings.specs.Readings.{amountOf, isLayer, isStored, leads, faceFrom, waterFrom, flowOf}
-use Rattle.read_flow.specs.Ends.{opposite}
+use Rattle.read_flow.specs.Turned.{opposite}
 
 pub data Led (G : Grid) : Place → Place → Type 0 where
   screen : {k l : ℕ} → 1 ≤ k → k ≤ G .layers → G .screened (k - 1) ≡ true → l ≡ 1 → Led G Well (Cell k l)

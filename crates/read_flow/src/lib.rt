@@ -23,7 +23,8 @@ ghost use Rattle.validity.specs.Validity.{valid};
 ghost use Rattle.step_drawdowns.specs.Drawdowns.{depthOf};
 ghost use Rattle.step_flows.specs.Flows.{tableC};
 ghost use Rattle.readings.specs.Readings.{leads, faceFrom, flowOf};
-ghost use Rattle.read_flow.specs.Ends.{inSlots, lossEnd, storageEnd, inUseFrom, InLayer, TableFits, opposite};
+ghost use Rattle.read_flow.specs.Ends.{inSlots, lossEnd, storageEnd, inUseFrom, InLayer, TableFits};
+ghost use Rattle.read_flow.specs.Turned.{opposite};
 
 // Whether a C rule joins one end to the other, in this order: the well to column 1 of a screened layer, a stored cell to the next column or to
 // the layer below.

@@ -1,18 +1,19 @@
 -- The answer gives the true reason: what its number is, and what holds of the place that it names.
 --     numbers                         an answer of a refusal is that of the number that `step` answers
 --     of-length, of-intake, of-bottom what holds of the place; of-nothing: of the step where there is none
+--     only                            no other answer with its number is so
 use mathlib.Core.Path.{_≡_, refl, sym, ap, _∙_}
-use mathlib.Core.Bool.{Bool, true, false, cond, not, _&&_, true≢false}
+use mathlib.Core.Bool.{Bool, true, false, cond, not, true≢false}
 use mathlib.Core.Logic.{_⊎_, inl, inr, ⊎-elim}
 use mathlib.Core.List.{List, map, Memᴰ·of-map}
 use Prim.Native.Nat.{ℕ, suc, _*_, _-_, _^_, _≤_, _<_}
 use native.Mathlib.Nat.{lt-div-mul-add}
 use native.Mathlib.Omega.{arith}
-use lib.Dec.{eqb, leb, ltb}
+use lib.Dec.{eqb, leb}
 use lib.IntN.{ℤ, pos}
 use lib.Signed.{_≤ℤ_, _<ℤ_, ltZ, ltZ-yes, clashℤ}
-use borrow.Author.Tests.{eqb-true, eqb-false, ltb-true, lt-ltb, le-ltb, le-leb, lt-leb, leb-true, ne-eqb}
-use Rattle.laws.specs.All.{all-fails, and-left, and-right}
+use borrow.Author.Tests.{eqb-true, eqb-false, ltb-true, lt-ltb, le-ltb, le-leb, lt-leb, ne-eqb}
+use Rattle.laws.specs.All.{all-fails}
 use Rattle.laws.specs.Integer.{not-past, ≤ℤ-trans}
 use Rattle.laws.specs.Lists.{range}
 use Rattle.laws.specs.Number.{below-or-not}
@@ -35,11 +36,13 @@ use Rattle.step_rules.specs.Ready.{Ready}
 use Rattle.step_rules.proofs.Laws as step
 use Rattle.readings.specs.declared.Place.the-variants.{Well, Cell}
 use Rattle.readings.specs.Readings.{isLayer, isStored, isNamed, numberOf}
+use Rattle.readings.specs.Laws.{cell-named, cell-number, cell-bounds}
 use Rattle.read_limiting.specs.declared.Limiting.{Limiting}
 use Rattle.read_limiting.specs.Limiting.{setsLimit, longestAt, shorterAt, shortestPlace, deeperAt, deepestColumn, nameOf, tooLongIn, pastBottomIn, limitingIn, limitingOf}
 use Rattle.read_limiting.specs.Reason.{numberIn, depthAfter, OfLength, OfBottom, OfNothing, Says, Agrees, Reason}
 use Rattle.read_limiting.proofs.Foremost.{Foremost, foremost-is}
 use Rattle.read_limiting.proofs.Judged.{tests-8, tests-10, tests-11, tests-other}
+use Rattle.read_limiting.proofs.OneAnswer.{one-length, one-bottom}
 use Rattle.read_limiting.proofs.Orders.{when-not-less, when-less, column-order, shorter-order}
 use Rattle.read_limiting.proofs.ShortestPlace.{bears-within, steady-within}
 
@@ -84,11 +87,10 @@ module _ (r : Record) (rate dt : ℕ) where
 
   -- each number of a place has its name
   named : (p : ℕ) → p < placeCount G → (isNamed G (nameOf G p) ≡ true) × (numberOf G (nameOf G p) ≡ p)
-  unfolding nameOf onePerPlace isNamed isLayer isStored numberOf
-  named = by-place G (λ p. (isNamed G (nameOf G p) ≡ true) × (numberOf G (nameOf G p) ≡ p)) (refl, refl) (λ i j hi hj.
-      let same : suc i - 1 ≡ i = omega arith in
-      rw (getD-one G Well (λ i j. Cell (suc i) j) Well i j hi hj)
-      (both-hold (both-hold (le-leb 1 (suc i) (omega arith)) (le-leb (suc i) (G .layers) (omega arith))) (both-hold (le-leb 1 (suc j) (omega arith)) (lt-ltb (suc j) (G .columns) hj)), ap (λ n. place G n (suc j)) same))
+  unfolding nameOf onePerPlace isNamed numberOf
+  named =
+      by-place G (λ p. (isNamed G (nameOf G p) ≡ true) × (numberOf G (nameOf G p) ≡ p)) (refl, refl)
+      (λ i j hi hj. rw (getD-one G Well (λ i j. Cell (suc i) j) Well i j hi hj) (cell-named G i j hi hj, cell-number G i j))
 
   -- ---- 8
 
@@ -233,10 +235,8 @@ module _ (r : Record) (rate dt : ℕ) where
 
     -- a column that is named is stored
     stored : (j : ℕ) → isNamed G (Cell 1 j) ≡ true → (1 ≤ j) × (j < r .site .columns)
-    unfolding isNamed isStored gridOf
-    stored j e =
-        let t = and-right (isLayer G 1) (leb 1 j && ltb j (r .site .columns)) e in
-        (leb-true 1 j (and-left (leb 1 j) (ltb j (r .site .columns)) t), ltb-true j (r .site .columns) (and-right (leb 1 j) (ltb j (r .site .columns)) t))
+    unfolding gridOf
+    stored j e = let b = cell-bounds G 1 j e in (b .2, b .3)
 
     in-columns : (1 ≤ column) × (column < r .site .columns)
     in-columns = (best .least, omega (arith, best .most, counts .columns-least))
@@ -275,5 +275,40 @@ module _ (r : Record) (rate dt : ℕ) where
       by-tests false false false true i j k l = of-bottom (eqb-true m 11 l)
       by-tests false false false false i j k l = of-nothing (eqb-false m 14 i) (eqb-false m 8 j) (eqb-false m 10 k) (eqb-false m 11 l)
 
+  -- ---- no other answer
+
+  -- the answer by a number that `step` gives
+  by-number : {n : ℕ} → stepRefusal r rate dt ≡ n → limitingIn G (stateOf r .losses) rate dt n ≡ limitingOf r rate dt
+  unfolding limitingOf
+  by-number e = ap (limitingIn G (stateOf r .losses) rate dt) (sym e)
+
+  -- it is of the refusal of a number above 0 where `step` gives that number, and nothing else is of none
+  given : (n : ℕ) → 0 < n → n ≡ numberIn (limitingOf r rate dt) → stepRefusal r rate dt ≡ n
+  unfolding limitingOf
+  given n h e = number-of (stepRefusal r rate dt) n h (sym e)
+
+  none-given : 0 ≡ numberIn (limitingOf r rate dt) → Limiting.Nothing ≡ limitingOf r rate dt
+  unfolding limitingOf limitingIn tooLongIn pastBottomIn numberIn
+  none-given = by-tests (eqb m 14) (eqb m 8) (eqb m 10) (eqb m 11)
+    where
+      m : ℕ
+      m = stepRefusal r rate dt
+
+      by-tests : (a b c d : Bool) → let x = cond a (Limiting.Refused 14) (cond b (tooLongIn G) (cond c (Limiting.PastIntake Well) (cond d (pastBottomIn G after) Limiting.Nothing))) in
+          0 ≡ numberIn x → Limiting.Nothing ≡ x
+      by-tests true b c d e = absurd (omega (arith, e))
+      by-tests false true c d e = absurd (omega (arith, e))
+      by-tests false false true d e = absurd (omega (arith, e))
+      by-tests false false false true e = absurd (omega (arith, e))
+      by-tests false false false false e = refl
+
+  only : (a : Limiting) → numberIn a ≡ numberIn (limitingOf r rate dt) → Says r rate dt a → a ≡ limitingOf r rate dt
+  unfolding limitingIn tooLongIn pastBottomIn numberIn Says
+  only (Limiting.TooLong p n) e s = let q = given 8 (omega arith) e in one-length r rate dt s (of-length q) ∙ by-number q
+  only (Limiting.PastIntake p) e s = let well : p ≡ Well = s .0 in ap Limiting.PastIntake well ∙ by-number (given 10 (omega arith) e)
+  only (Limiting.PastBottom p) e s = let q = given 11 (omega arith) e in ap Limiting.PastBottom (one-bottom r rate dt s (of-bottom q)) ∙ by-number q
+  only Limiting.Nothing e s = none-given e
+  only (Limiting.Refused n) e s = let number : n ≡ 14 = s in ap Limiting.Refused number ∙ by-number (given 14 (omega arith) (sym number ∙ e))
+
   pub reason : Reason r rate dt
-  reason = record { numbers = numbers; says = says }
+  reason = record { numbers = numbers; says = says; only = only }

@@ -90,3 +90,5 @@ module _ (r : Record) (rate dt : ℕ) where
   pub record Reason : Type 0 where
     pub numbers : Agrees 8 × Agrees 10 × Agrees 11 × Agrees 14
     pub says : Says (limitingOf r rate dt)
+    -- and of no other answer with its number could this be said
+    pub only : (a : Limiting) → numberIn a ≡ numberIn (limitingOf r rate dt) → Says a → a ≡ limitingOf r rate dt

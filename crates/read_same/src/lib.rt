@@ -111,5 +111,5 @@ pub fn same(first: Record, second: Record) -> Sameness
 
 // A theorem, and no code: of any two records `same` answers 14 where 14 refuses one of them, else yes where they are equal, and no where they are not.
 pub fn same_means_equal()
-    ensures { λ r. ⌜ ((one other : Record) → Compares one other (sameOf one other)) ⌝ }
+    ensures { λ r. ⌜ ((one other : Record) → Compares one other (one ≡ other) (sameOf one other)) ⌝ }
 {}

@@ -1,31 +1,44 @@
 -- What the proofs of the readings share: laws only, nothing to believe.
 --     amount-refused, amount-given     the answer at the first test that holds, and where none does; balance-..: of the budget
 --     well-back, inflow-back           the machine reads back the well's loss and the inflow total as they are
-use mathlib.Core.Path.{_≡_, ap}
-use mathlib.Core.Bool.{Bool}
+--     cell-named, cell-number          a cell of a grid has its name, and by it its number
+--     cell-bounds                      and its layer and column are among the grid's
+--     named-place, place-named         what is named is a place, and each place is named; named-once: by one name
+--     equal-counts, equal-names, ..    grids with equal counts have as many places, with the same names and numbers
+--     read-depth                       the drawdown that is read at a named place
+use mathlib.Core.Path.{_≡_, refl, sym, ap, ap₂, _∙_}
+use mathlib.Core.Bool.{Bool, true, _&&_, true≢false}
 use mathlib.Core.List.{List}
-use Prim.Native.Nat.{ℕ, suc, _≤_, _<_, zero-le}
+use Prim.Native.Nat.{ℕ, zero, suc, _-_, _≤_, _<_, zero-le}
 use native.Mathlib.Omega.{arith}
+use borrow.Author.Tests.{leb-true, le-leb, ltb-true, lt-ltb, eqb-true, eq-eqb}
+use lib.Dec.{eqb, leb, ltb}
 use lib.IntN.{ℤ, natAbs}
 use mir.Syntax.{w64}
 use mir.Val.{toZ, ofZ}
 use mir.Facts.{toZ-ofZ}
+use Rattle.laws.specs.All.{and-left, and-right}
 use Rattle.laws.specs.Lists.{first}
 use Rattle.laws.specs.Refusal.{First, first-is}
+use Rattle.laws.specs.Rows.{both-hold}
 use Rattle.laws.specs.Signed.{small-fits}
 use Rattle.laws.specs.Sums.{sumℕ-one, mem-range}
 use Rattle.limits.specs.Limits.{totalLimit}
-use Rattle.network.specs.Network.{Network, State, lossAt}
-use Rattle.network.specs.Grid.{onePerPlace, networkOf}
+use Rattle.network.specs.Network.{Network, State, lossAt, drawdown}
+use Rattle.network.specs.Grid.{Grid, placeCount, place, onePerPlace, networkOf}
 use Rattle.network.specs.Kept.{Kept}
+use Rattle.network.specs.laws.Places.{place-below, place-is, off-well, by-place}
 use Rattle.network.specs.laws.Totals.{size, all-lost}
 use Rattle.record.specs.declared.Record.{Record}
 use Rattle.record.specs.Record.{gridOf, stateOf}
+use Rattle.validity.specs.Validity.{valid}
 use Rattle.validity.specs.Laws.{Valid, valid-proper}
+use Rattle.readings.specs.declared.Place.{Place}
+use Rattle.readings.specs.declared.Place.the-variants.{Well, Cell}
 use Rattle.readings.specs.declared.Amount.{Amount}
 use Rattle.readings.specs.declared.Totals.{Totals}
 use Rattle.readings.specs.declared.Balance.{Balance}
-use Rattle.readings.specs.Readings.{amountOf, balanceOf}
+use Rattle.readings.specs.Readings.{amountOf, balanceOf, isLayer, isStored, isNamed, numberOf, drawdownOf}
 
 -- ---- answers
 module _ {ts : List (Bool × ℕ)} where
@@ -62,3 +75,84 @@ module _ (r : Record) (v : Valid r) where
   pub inflow-back : toZ w64 (ofZ w64 (r .inflow)) ≡ r .inflow
   unfolding stateOf
   inflow-back = toZ-ofZ (small-fits (r .inflow) (inflow-small (networkOf (gridOf r)) (stateOf r) (v .kept)) (omega arith))
+
+-- ---- names of places
+module _ (G : Grid) where
+  pub cell-named : (i j : ℕ) → i < G .layers → suc j < G .columns → isNamed G (Cell (suc i) (suc j)) ≡ true
+  unfolding isNamed isLayer isStored
+  cell-named i j h k =
+      both-hold (both-hold (le-leb 1 (suc i) (omega arith)) (le-leb (suc i) (G .layers) (omega arith))) (both-hold (le-leb 1 (suc j) (omega arith)) (lt-ltb (suc j) (G .columns) k))
+
+  pub cell-number : (i j : ℕ) → numberOf G (Cell (suc i) (suc j)) ≡ place G i (suc j)
+  unfolding numberOf
+  cell-number i j = ap (λ n. place G n (suc j)) (omega arith)
+
+  -- the layer and the column of a named cell
+  pub cell-bounds : (i j : ℕ) → isNamed G (Cell i j) ≡ true → (1 ≤ i) × (i ≤ G .layers) × (1 ≤ j) × (j < G .columns)
+  unfolding isNamed isLayer isStored
+  cell-bounds i j e =
+      let layer = and-left (leb 1 i && leb i (G .layers)) (leb 1 j && ltb j (G .columns)) e in
+      let column = and-right (leb 1 i && leb i (G .layers)) (leb 1 j && ltb j (G .columns)) e in (
+        leb-true 1 i (and-left (leb 1 i) (leb i (G .layers)) layer),
+        leb-true i (G .layers) (and-right (leb 1 i) (leb i (G .layers)) layer),
+        leb-true 1 j (and-left (leb 1 j) (ltb j (G .columns)) column),
+        ltb-true j (G .columns) (and-right (leb 1 j) (ltb j (G .columns)) column),
+      )
+
+  pub named-place : (p : Place) → isNamed G p ≡ true → numberOf G p < networkOf G .places
+  unfolding numberOf networkOf placeCount
+  named-place Well e = omega arith
+  named-place (Cell i zero) e = absurd (omega (arith, cell-bounds i zero e .2))
+  named-place (Cell i (suc j)) e = let b = cell-bounds i (suc j) e in place-below G (i - 1) j (omega (arith, b .0, b .1)) (b .3)
+
+  -- two named places have two numbers
+  off-zero : (i j : ℕ) → isNamed G (Cell i j) ≡ true → place G (i - 1) j ≡ 0 → ⊥
+  off-zero i j e z = true≢false (sym (eq-eqb (place G (i - 1) j) 0 z) ∙ off-well G (i - 1) j (cell-bounds i j e .2))
+
+  same-cell : (i j k l : ℕ) → isNamed G (Cell i j) ≡ true → isNamed G (Cell k l) ≡ true → place G (i - 1) j ≡ place G (k - 1) l → (i ≡ k) × (j ≡ l)
+  same-cell i j k zero e f n = absurd (omega (arith, cell-bounds k zero f .2))
+  same-cell i j k (suc l) e f n =
+      let a = cell-bounds i j e in
+      let b = cell-bounds k (suc l) f in
+      let both = sym (place-is G (k - 1) l (omega (arith, b .0, b .1)) (b .3) (i - 1) j) ∙ eq-eqb (place G (i - 1) j) (place G (k - 1) (suc l)) n in (
+        omega (arith, a .0, b .0, eqb-true (k - 1) (i - 1) (and-left (eqb (k - 1) (i - 1)) (eqb (suc l) j) both)),
+        sym (eqb-true (suc l) j (and-right (eqb (k - 1) (i - 1)) (eqb (suc l) j) both)),
+      )
+
+  pub named-once : (p q : Place) → isNamed G p ≡ true → isNamed G q ≡ true → numberOf G p ≡ numberOf G q → p ≡ q
+  unfolding numberOf
+  named-once Well Well e f n = refl
+  named-once Well (Cell k l) e f n = absurd (off-zero k l f (sym n))
+  named-once (Cell i j) Well e f n = absurd (off-zero i j e n)
+  named-once (Cell i j) (Cell k l) e f n = let s = same-cell i j k l e f n in ap₂ Cell (s .0) (s .1)
+
+  pub place-named : (n : ℕ) → n < networkOf G .places → (p : Place) × (isNamed G p ≡ true) × (numberOf G p ≡ n)
+  unfolding isNamed numberOf networkOf
+  place-named = by-place G (λ n. (p : Place) × (isNamed G p ≡ true) × (numberOf G p ≡ n)) (Well, refl, refl) (λ i j h k. (Cell (suc i) (suc j), cell-named i j h k, cell-number i j))
+
+-- of two grids
+module _ (G H : Grid) (layers : G .layers ≡ H .layers) (columns : G .columns ≡ H .columns) where
+  pub equal-counts : placeCount G ≡ placeCount H
+  unfolding placeCount
+  equal-counts = rw (layers, columns)
+
+  pub equal-names : (p : Place) → isNamed G p ≡ isNamed H p
+  unfolding isNamed isLayer isStored
+  equal-names Well = refl
+  equal-names (Cell i j) = rw (layers, columns)
+
+  pub equal-places : (i j : ℕ) → place G i j ≡ place H i j
+  unfolding place
+  equal-places i zero = refl
+  equal-places i (suc j) = rw (equal-counts, columns)
+
+  pub equal-numbers : (p : Place) → numberOf G p ≡ numberOf H p
+  unfolding numberOf
+  equal-numbers Well = refl
+  equal-numbers (Cell i j) = equal-places _ j
+
+-- ---- the drawdown that is read
+pub read-depth : (r : Record) → valid r ≡ true → (p : Place) → isNamed (gridOf r) p ≡ true
+    → drawdownOf r p ≡ amountOf 0 (drawdown (networkOf (gridOf r)) (stateOf r .losses) (numberOf (gridOf r) p))
+unfolding drawdownOf first
+read-depth r ok p e = rw (ok, e)

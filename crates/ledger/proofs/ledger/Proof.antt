@@ -11,6 +11,7 @@ use Rattle.network.specs.laws.Preserve.{loss-in-at-rest}
 use Rattle.record.specs.declared.Record.{Record}
 use Rattle.record.specs.Record.{gridOf, stateOf, outcomeOf}
 use Rattle.readings.specs.Readings.{amountOf, numberOf, setOf}
+use Rattle.readings.specs.Laws.{named-place}
 use Rattle.validity.specs.Laws.{Valid, valid-record, valid-proper}
 use Rattle.scenario.specs.Scenario.{scenarioOf, startOf}
 use Rattle.start_laws.specs.Laws.{network-is, begun, begun-record}
@@ -18,7 +19,7 @@ use Rattle.ledger.specs.Calls.{Call, leftByAll, repliesTo}
 use Rattle.ledger.specs.Ledger.{gridFrom, networkFrom, ledgerOf, acceptedOf, pumpedBy, inSet, netInto}
 use Rattle.ledger.specs.Promise.{Holds}
 use Rattle.ledger.proofs.AcceptedSteps.{none, gained, conserved-over}
-use Rattle.ledger.proofs.Readings.{same-budget, same-loss, same-depth, named-place, set-inside, set-loss}
+use Rattle.ledger.proofs.Readings.{same-budget, same-loss, same-depth, set-inside, set-loss}
 use Rattle.ledger.proofs.Records.{Runs, mark-is, start-whole, runs-all, same-outcomes}
 use Rattle.ledger.proofs.Told.{told-all}
 use Rattle.ledger.proofs.ledger.Statement.{statement}

@@ -1,14 +1,15 @@
 -- Levels after the pump stops, from any record that 14 does not refuse.
-use mathlib.Core.Path.{_≡_, sym, ap, _∙_}
+use mathlib.Core.Path.{_≡_, refl, sym, ap, _∙_}
 use mathlib.Core.Bool.{true}
 use mathlib.Core.List.{List}
+use Prim.Native.Nat.{ℕ}
 use lib.IntN.{pos, negℤ, _-ℤ_}
 use Rattle.laws.specs.Lists.{every}
 use Rattle.record.specs.declared.Record.{Record}
 use Rattle.record.specs.Record.{stateOf}
 use Rattle.validity.specs.Validity.{valid}
 use Rattle.readings.specs.Readings.{totalsIn}
-use Rattle.ledger.specs.Calls.{Call, leftByAll}
+use Rattle.ledger.specs.Calls.{Reading, Call, step, read, leftByAll}
 use Rattle.ledger_recovery.specs.Recovery.{isAtRest, Reads, lost, Recovers}
 use Rattle.ledger_recovery.proofs.Resting.{reads, lost-is, no-intake, turned, rest-each, rest-all}
 use Rattle.ledger_recovery.proofs.recovery.Statement.{statement}
@@ -43,8 +44,17 @@ module _ (r : Record) (ok : valid r ≡ true) (calls : List Call) (rest : every 
     intake = no-intake (leftByAll r calls) (end .0);
   }
 
+-- what may be in the list
+step-rests : (dt : ℕ) → isAtRest (step 0 dt) ≡ true
+unfolding isAtRest
+step-rests dt = refl
+
+reading-rests : (q : Reading) → isAtRest (read q) ≡ true
+unfolding isAtRest
+reading-rests q = refl
+
 returns : tie.Need-returns
-returns c r ok calls rest = recovers r ok calls rest
+returns c = (recovers, step-rests, reading-rests)
 
 pub recovery-spec : {M : Type 1} → statement M
 recovery-spec = tie.close (tie.spec returns)
