@@ -3,6 +3,7 @@
 use mathlib.Core.Path.{_≡_, refl, sym, ap, ap₂, subst, fun-ext, _∙_}
 use mathlib.Core.List.{List, [], _∷_, _++_, map, map-append, flatMap}
 use Prim.Native.Nat.{ℕ, zero, suc}
+use native.Mathlib.Omega.{arith}
 use lib.IntN.{ℤ, pos, negℤ}
 use lib.ListN.{getD}
 use Rattle.laws.specs.Lists.{allBelow, padded, first, ifℕ, ifℤ, sumℕ, sumℤ, range, some}
@@ -27,7 +28,7 @@ use Rattle.start_laws.specs.Steps.{stateAfter, outcome-is, carries-on}
 use Rattle.cases.specs.BoreK.{boreK, numbersK, numbersApart}
 use Rattle.cases.specs.Started.{scenario-K, started}
 
--- a row: what the definitions give, and what the documents say
+-- a row: what the definitions give, and what the documents say, or what is worked by hand
 abbrev pub Row : Type 0
 Row = ℤ × ℤ
 
@@ -87,8 +88,8 @@ rows text =
     ++ faceRows (gridOf before) (networkOf (gridOf before)) (stateOf before .losses)
     ++ depthRows (gridOf after) (networkOf (gridOf after)) (stateOf after .losses)
 
--- the row that is not marked K: C in use between layers 1 and 2 of column 1, at D 2000000 µm in layer 1, for Kv_1 10000 and Kv_2 40000, b_1 10000 and b_2 2000.
--- By hand, with A_1 = 753982 as above: s is 1000×10000 − 2000000 = 8000000, the divisor 8000000×40000 + 500×2000×10000 = 33×10^10, the dividend
+-- the row that is not marked K: C in use between layers 1 and 2 of column 1, at D 2000000 µm in layer 1, for Kv_1 10000 and Kv_2 40000 nm/s, b_1 10000 and b_2 2000
+-- mm. By hand, with A_1 = 753982 mm² as above: s is 1000×10000 − 2000000 = 8000000, the divisor 8000000×40000 + 500×2000×10000 = 33×10^10, the dividend
 -- 753982×1000×10000×40000 = 30159280×10^10, and 30159280/33 is 913917 and 19/33. With the two Kv exchanged the divisor is 12×10^10, and C 2513273
 unfoldable pub apartRows : Grid → List Row
 apartRows G = (inUse (networkOf G) (downFace G 0 1) (pos 2000000) (pos 0), pos 913917) ∷ []
@@ -96,7 +97,7 @@ apartRows G = (inUse (networkOf G) (downFace G 0 1) (pos 2000000) (pos 0), pos 9
 unfoldable pub table : List Row
 table = rows boreK ++ apartRows (scenarioGrid (siteOf numbersApart))
 
--- the definitions give what the document says, row by row
+-- the definitions give what stands beside it, row by row
 unfoldable pub Agree : List Row → Type 0
 Agree l = map (λ row. row .0) l ≡ map (λ row. row .1) l
 
@@ -219,3 +220,8 @@ apart-agrees = refl
 pub agrees : Agree table
 unfolding table rows
 agrees = both _ _ (both _ _ (both _ _ (both _ _ answer-agrees (length-agrees _ at-start)) (faces-agree _ after-2)) (depth-agrees _ after-3)) apart-agrees
+
+-- and of a row whose sides differ it does not hold
+pub differs : Agree ((pos 0, pos 1) ∷ []) → ⊥
+unfolding Agree
+differs e = let z : _≡_ {A = ℕ} 0 1 = cc in absurd (omega arith)

@@ -5,7 +5,7 @@
 use mathlib.Core.Path.{_≡_, refl, ap, fun-ext, _∙_}
 use mathlib.Core.Bool.{Bool, true, false, cond, not, _&&_, _||_, false≢true}
 use mathlib.Core.List.{List, [], _∷_, map, flatMap}
-use Prim.Native.Nat.{ℕ, zero, suc, _-_, _≤_, _<_}
+use Prim.Native.Nat.{ℕ, zero, suc, _-_, _<_}
 use native.Mathlib.Omega.{arith}
 use lib.Dec.{eqb, leb, ltb}
 use lib.Ieee.{Float}
@@ -13,7 +13,7 @@ use lib.IntN.{ℤ, negℤ}
 use lib.ListN.{length, getD}
 use lib.Signed.{ltZ}
 use borrow.Author.Tests.{leb-true, ltb-true, lt-ltb, eqb-true, eq-eqb, not-false}
-use Rattle.laws.specs.All.{and-left, and-right}
+use Rattle.laws.specs.All.{and-left}
 use Rattle.laws.specs.Lists.{first, range}
 use Rattle.laws.specs.Refusal.{passed}
 use Rattle.laws.specs.Rows.{three-hold, four-hold}
@@ -31,7 +31,7 @@ use Rattle.coefficients.specs.Coefficients.{scenarioGrid}
 use Rattle.readings.specs.declared.Place.{Place}
 use Rattle.readings.specs.declared.Place.the-variants.{Well, Cell}
 use Rattle.readings.specs.Readings.{amountOf, balanceOf, samenessOf, isLayer, isStored, isNamed, numberOf, totalsIn, drawdownOf, budgetOf, setOf, lossOf, leads, faceFrom, waterFrom, flowOf, deepCountIn, deepCount, deepRefusal, codesAt, deepCodesIn, deepCodes, listedOf, deepOf, sameRecord, sameOf}
-use Rattle.readings.specs.Laws.{equal-counts, equal-names, equal-places, equal-numbers}
+use Rattle.readings.specs.Laws.{layer-bounds, column-bounds, equal-counts, equal-names, equal-places, equal-numbers}
 use Rattle.hydraulics.specs.Hydraulics.{inflowOf}
 use Rattle.pipe.specs.Laws.{pipe-loss-same}
 use Rattle.read_head_loss.specs.HeadLoss.{waterInto, lossesAt, lossAnswerOf, isScreenedLayer, headLossRefusal, headLossOf}
@@ -111,14 +111,6 @@ module _ {scenario : Site} {s : State} {r : Record} (h : Carries scenario s r) w
 
   -- ---- flow
 
-  layer-bounds : (i : ℕ) → isLayer G i ≡ true → (1 ≤ i) × (i ≤ scenario .layers)
-  unfolding isLayer scenarioGrid
-  layer-bounds i e = (leb-true 1 i (and-left (leb 1 i) (leb i (scenario .layers)) e), leb-true i (scenario .layers) (and-right (leb 1 i) (leb i (scenario .layers)) e))
-
-  column-bounds : (j : ℕ) → isStored G j ≡ true → (1 ≤ j) × (j < scenario .columns)
-  unfolding isStored scenarioGrid
-  column-bounds j e = (leb-true 1 j (and-left (leb 1 j) (ltb j (scenario .columns)) e), ltb-true j (scenario .columns) (and-right (leb 1 j) (ltb j (scenario .columns)) e))
-
   across-face : (i j : ℕ) → gridOf r .across i j ≡ G .across i j → acrossFace (gridOf r) i j ≡ acrossFace G i j
   unfolding acrossFace
   across-face i j e = rw (same-place i j, same-place i (suc j), e)
@@ -148,7 +140,7 @@ module _ {scenario : Site} {s : State} {r : Record} (h : Carries scenario s r) w
   same-face Well Well e = absurd (false≢true e)
   same-face Well (Cell i j) e =
       let t = three-hold (isLayer G i) (G .screened (i - 1)) (eqb j 1) e in
-      let b = layer-bounds i (t .0) in
+      let b = layer-bounds G i (t .0) in
       screen-face (i - 1) (omega (arith, b .0, b .1)) (t .1)
   same-face (Cell i j) Well e = absurd (false≢true e)
   same-face (Cell i j) (Cell k l) e = by-test (eqb k i) refl
@@ -162,13 +154,13 @@ module _ {scenario : Site} {s : State} {r : Record} (h : Carries scenario s r) w
       by-test : (u : Bool) → eqb k i ≡ u
           → cond u (acrossFace (gridOf r) (i - 1) j) (downFace (gridOf r) (i - 1) j) ≡ cond u (acrossFace G (i - 1) j) (downFace G (i - 1) j)
       by-test true q =
-          let b = layer-bounds i (t .0) in
-          let c = column-bounds j (t .2) in
+          let b = layer-bounds G i (t .0) in
+          let c = column-bounds G j (t .2) in
           across-face (i - 1) j (across-is h (i - 1) j (omega (arith, b .0, b .1)) (c .0) (c .1))
       by-test false q =
-          let b = layer-bounds i (t .0) in
-          let d = layer-bounds k (t .1) in
-          let c = column-bounds j (t .2) in
+          let b = layer-bounds G i (t .0) in
+          let d = layer-bounds G k (t .1) in
+          let c = column-bounds G j (t .2) in
           down-face (i - 1) j (down-is h (i - 1) j (omega (arith, b .0, d .1, below q)) (c .0) (c .1))
 
   same-water : (dt : ℕ) (a b : Place) → (leads G a b || leads G b a) ≡ true → waterFrom (gridOf r) (s .losses) dt a b ≡ waterFrom G (s .losses) dt a b

@@ -25,6 +25,10 @@ use Rattle.read_limiting.specs.Limiting.{limitingIn}
 use Rattle.ledger.specs.Calls.{drawdown, budget, loss, flow, deep, same, sameAs, headLoss, limiting, Call, step, read, Reply, stepped, amount, balance, listed, compared, losses, limited}
 use Rattle.ledger.specs.Ledger.{afterCall, Accepted, acceptedFrom, greatest}
 
+-- the record that holds a scenario with its C and S, a state of its ledger, and the largest D that the well has had in the accepted steps to it
+abbrev pub ledgerRecord : Site → List Accepted → State → Record
+ledgerRecord scenario steps s = holding (startRecord scenario) s (greatest (networkOf (scenarioGrid scenario)) steps)
+
 module _ (scenario : Site) (steps : List Accepted) (s : State) where
   abbrev G : Grid
   G = scenarioGrid scenario
@@ -36,17 +40,18 @@ module _ (scenario : Site) (steps : List Accepted) (s : State) where
   abbrev pub stepsAfter : Call → List Accepted
   stepsAfter c = steps ++ acceptedFrom N s (c ∷ [])
 
-  -- the record that a call leaves: it holds this scenario with its C and S, the ledger's losses, totals and time after the call, and the largest D that the
-  -- ledger's well has had then
-  abbrev pub recordAfter : Call → Record
-  recordAfter c = holding (startRecord scenario) (afterCall N s c) (greatest N (stepsAfter c))
+  -- the record that a call leaves
+  abbrev pub recordLeft : Call → Record
+  recordLeft c = ledgerRecord scenario (stepsAfter c) (afterCall N s c)
 
   -- what the reply to one call is, in the state s after these accepted steps
   unfoldable pub Tells : Call → Reply → Type 0
-  -- a step: the outcome by the ledger's judgement, and that record; its losses, totals and time are the ledger's
+  -- a step: the outcome by the ledger's judgement, and that record; its losses, totals and time are the ledger's after the call, and its mark is the largest D
+  -- that the ledger's well has had then
   Tells (step rate dt) reply =
-      (reply ≡ stepped (record { outcome = outcomeOf (refusal N s rate dt); «record» = recordAfter (step rate dt) }))
-      × (stateOf (recordAfter (step rate dt)) ≡ afterCall N s (step rate dt))
+      (reply ≡ stepped (record { outcome = outcomeOf (refusal N s rate dt); «record» = recordLeft (step rate dt) }))
+      × (stateOf (recordLeft (step rate dt)) ≡ afterCall N s (step rate dt))
+      × (recordLeft (step rate dt) .mark ≡ greatest N (stepsAfter (step rate dt)))
   -- the drawdown at a place; 12 for no such place
   Tells (read (drawdown p)) reply = reply ≡ amount (amountOf (first ((not (isNamed G p), 12) ∷ [])) (network.drawdown N (s .losses) (numberOf G p)))
   -- the pumped total, the well's loss, all cells' loss, the inflow total and the largest D that the well has had; never refused
@@ -59,10 +64,9 @@ module _ (scenario : Site) (steps : List Accepted) (s : State) where
   -- the cells deeper than D: how many, and in the lent list the code of each in the reading's order; 13 for a list too short
   Tells (read (deep D old)) reply =
       reply ≡ listed (listedOf (first ((ltb (length old) (deepCountIn G (s .losses) D), 13) ∷ [])) (deepCountIn G (s .losses) D) (deepCodesIn G (s .losses) D) old)
-  -- whether another record is the one that holds this scenario with its C and S, the ledger's losses, totals and time, and the largest D that the well has had
-  -- (document 02, N10), and the other way round; 14 for that record
-  Tells (read (same q)) reply = reply ≡ compared (samenessOf (first ((not (valid q), 14) ∷ [])) (sameRecord (holding (startRecord scenario) s (greatest N steps)) q))
-  Tells (read (sameAs q)) reply = reply ≡ compared (samenessOf (first ((not (valid q), 14) ∷ [])) (sameRecord q (holding (startRecord scenario) s (greatest N steps))))
+  -- whether another record is that of the ledger (document 02, N10), and the other way round; 14 for that record
+  Tells (read (same q)) reply = reply ≡ compared (samenessOf (first ((not (valid q), 14) ∷ [])) (sameRecord (ledgerRecord scenario steps s) q))
+  Tells (read (sameAs q)) reply = reply ≡ compared (samenessOf (first ((not (valid q), 14) ∷ [])) (sameRecord q (ledgerRecord scenario steps s)))
   -- inflow, screen loss and pipe loss of a layer, from 1, for a step Δt not taken; 12 for no such screened layer, 7 and 8 for the Δt
   Tells (read (headLoss layer dt)) reply =
       reply ≡ losses (lossAnswerOf (first ((not (isScreenedLayer G layer), 12) ∷ (lengthOut dt, 7) ∷ (unstable N dt, 8) ∷ []))

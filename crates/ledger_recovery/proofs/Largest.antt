@@ -19,7 +19,7 @@ use Rattle.network.specs.laws.Places.{place-below, by-place}
 use Rattle.readings.specs.declared.Place.{Place}
 use Rattle.readings.specs.declared.Place.the-variants.{Well, Cell}
 use Rattle.readings.specs.Readings.{isNamed, numberOf}
-use Rattle.readings.specs.Laws.{cell-named, cell-number}
+use Rattle.readings.specs.Laws.{named-cell}
 use Rattle.ledger_recovery.specs.Recovery.{largestOf, cellDepths, largestIn}
 
 -- ---- of a list
@@ -87,4 +87,4 @@ module _ (G : Grid) (vs : List ℤ) where
   unfolding largestIn isNamed numberOf
   largest-named =
       one-of Named (D 0) (cellDepths G vs) (Well, refl, refl)
-      (in-cell Named (λ i r h k. (Cell (suc i) (suc r), cell-named G i r h k, ap D (cell-number G i r))))
+      (in-cell Named (λ i r h k. let c = named-cell G i r h k in (Cell (suc i) (suc r), c .0, ap D (c .1))))

@@ -20,7 +20,7 @@ pub record SameDrawdowns (r q : Record) : Type 0 where
   pub columns : r .site .columns ≡ q .site .columns
   pub depths : (p : Place) → (isNamed (gridOf r) p || isNamed (gridOf q) p) ≡ true → drawdownOf r p ≡ drawdownOf q p
 
--- ---- the same as a test, by which `same` answered
+-- ---- the same rule as a test: by it `same` answered before N10
 
 -- equal D at each place
 unfoldable pub sameDepths : Record → Record → Bool

@@ -1,6 +1,6 @@
 -- The figures of a line, from the readings: laws only, nothing to believe.
 --     figures-read     the figures that the readings of a record give are within their limits
-use mathlib.Core.Path.{_≡_, refl, sym, ap, _∙_}
+use mathlib.Core.Path.{_≡_, sym, ap, _∙_}
 use mathlib.Core.Bool.{Bool, not}
 use Prim.Native.Nat.{ℕ, zero, suc, _+_, _≤_, zero-le}
 use native.Mathlib.Omega.{arith}
@@ -25,6 +25,7 @@ use Rattle.validity.specs.Laws.{valid-record, valid-proper}
 use Rattle.readings.specs.declared.Place.{Place}
 use Rattle.readings.specs.declared.Totals.{Totals}
 use Rattle.readings.specs.Readings.{amountOf, balanceOf, numberOf, drawdownOf, totalsIn, budgetOf}
+use Rattle.readings.specs.Laws.{given-amount}
 use Rattle.listing_entry.specs.Figures.{Figures}
 
 -- ---- of a state in its limits
@@ -67,11 +68,6 @@ module _ (N : Network) (proper : Proper N) (s : State) (kept : Kept N s) where
   }
 
 -- ---- of what the readings give
-
-given-amount : (n : ℕ) (x D : ℤ) → amountOf n x ≡ amountOf 0 D → (n ≡ 0) × (x ≡ D)
-unfolding amountOf
-given-amount zero x D e = (refl, cc)
-given-amount (suc n) x D e = let z : _≡_ {A = ℕ} 0 1 = cc in absurd (omega arith)
 
 given-balance : (n : ℕ) (x t : Totals) → balanceOf n x ≡ balanceOf 0 t → x ≡ t
 unfolding balanceOf

@@ -12,11 +12,11 @@ use Prim.Native.Nat.{ℕ, zero, suc, _+_, _*_, _-_, _/_, _%_, _≤_, _<_, zero-l
 use native.Mathlib.Nat.{add-zero, mul-comm}
 use native.Mathlib.Numerals.{add-one}
 use native.Mathlib.Omega.{arith}
-use lib.Dec.{eqb, leb, ltb}
+use lib.Dec.{eqb, leb}
 use lib.ListN.{length, getD, drop, set, length-append, length-drop, drop-of-length-le}
 use lib.Seq.{drop-cons, append-snoc, set-append-seam}
-use borrow.Author.Tests.{eqb-true, eq-eqb, ltb-true, lt-ltb, le-ltb, le-leb, leb-true}
-use Rattle.laws.specs.All.{and-left, and-right}
+use borrow.Author.Tests.{eqb-true, eq-eqb, lt-ltb, le-ltb, le-leb}
+use Rattle.laws.specs.All.{and-left}
 use Rattle.laws.specs.Rows.{same-test, both-hold}
 use Rattle.laws.specs.RowSums.{sum-parts, sum-more, sum-shift, sum-cut, sum-rows}
 use Rattle.laws.specs.Lists.{ifℕ, sumℕ, range}
@@ -28,7 +28,8 @@ use Rattle.record.specs.declared.Record.{Record}
 use Rattle.record.specs.Record.{gridOf}
 use Rattle.validity.specs.Validity.{valid}
 use Rattle.validity.specs.Laws.{valid-record}
-use Rattle.readings.specs.Readings.{isLayer, isStored, isDeeper, isDeepCode, deepCount}
+use Rattle.readings.specs.Readings.{isLayer, isStored, isNamed, isDeeper, isDeepCode, deepCount}
+use Rattle.readings.specs.Laws.{cell-bounds}
 use Rattle.read_deep_cells.specs.Codes.{codeOf, below}
 use Rattle.read_deep_cells.specs.Order.{times}
 
@@ -178,15 +179,8 @@ module _ (r : Record) (D : ℕ) where
       named = isLayer (gridOf r) (c / 100) && isStored (gridOf r) (c % 100)
 
       named-bounds : named ≡ true → (1 ≤ c / 100) × (c / 100 ≤ n) × (1 ≤ c % 100) × (c % 100 < m)
-      unfolding named isLayer isStored gridOf
-      named-bounds e =
-          let layer = and-left (leb 1 (c / 100) && leb (c / 100) n) (leb 1 (c % 100) && ltb (c % 100) m) e in
-          let column = and-right (leb 1 (c / 100) && leb (c / 100) n) (leb 1 (c % 100) && ltb (c % 100) m) e in (
-            leb-true 1 (c / 100) (and-left (leb 1 (c / 100)) (leb (c / 100) n) layer),
-            leb-true (c / 100) n (and-right (leb 1 (c / 100)) (leb (c / 100) n) layer),
-            leb-true 1 (c % 100) (and-left (leb 1 (c % 100)) (ltb (c % 100) m) column),
-            ltb-true (c % 100) m (and-right (leb 1 (c % 100)) (ltb (c % 100) m) column),
-          )
+      unfolding named isNamed gridOf
+      named-bounds e = cell-bounds (gridOf r) (c / 100) (c % 100) e
 
       only-slot : named ≡ true → (k : ℕ) → eqb (codeOf k) c ≡ eqb here k
       unfolding codeOf

@@ -4,14 +4,12 @@ use mathlib.Core.Bool.{Bool, true, false, not, _&&_}
 use mathlib.Core.List.{List}
 use Prim.Native.Nat.{ℕ, suc, _-_, _≤_, _<_}
 use native.Mathlib.Omega.{arith}
-use borrow.Author.Tests.{leb-true, ltb-true}
 use lib.Dec.{leb, ltb}
 use lib.IntN.{ℤ, pos}
 use lib.ListN.{getD}
 use lib.Signed.{_≤ℤ_}
 use mir.Syntax.{w64}
 use mir.Val.{SFits, toZ}
-use Rattle.laws.specs.All.{and-left, and-right}
 use Rattle.laws.specs.Integer.{≤ℤ-pos}
 use Rattle.laws.specs.Refusal.First.{none, hit, skip}
 use Rattle.laws.specs.Signed.{read, small-fits}
@@ -31,7 +29,7 @@ use Rattle.readings.specs.declared.Place.{Place}
 use Rattle.readings.specs.declared.Place.the-variants.{Well, Cell}
 use Rattle.readings.specs.declared.Amount.{Amount}
 use Rattle.readings.specs.Readings.{isLayer, isStored, isNamed, numberOf, drawdownOf}
-use Rattle.readings.specs.Laws.{amount-refused, amount-given}
+use Rattle.readings.specs.Laws.{amount-refused, amount-given, cell-bounds}
 
 pub refused-14 : (r : Record) (p : Place) → valid r ≡ false → Amount.Refused 14 ≡ drawdownOf r p
 unfolding drawdownOf
@@ -90,32 +88,28 @@ module _ (r : Record) (ok : valid r ≡ true) where
     no-cell e = amount-refused _ (skip (ap not ok) (hit (ap not e)))
 
     module _ (e : isCell r layer column ≡ true) where
-      layer-in : (1 ≤ layer) × (layer ≤ r .site .layers)
-      layer-in = let t = and-left (leb 1 layer && leb layer (r .site .layers)) (leb 1 column && ltb column (r .site .columns)) e in
-          (leb-true _ _ (and-left (leb 1 layer) (leb layer (r .site .layers)) t), leb-true _ _ (and-right (leb 1 layer) (leb layer (r .site .layers)) t))
-
-      column-in : (1 ≤ column) × (column < r .site .columns)
-      column-in = let t = and-right (leb 1 layer && leb layer (r .site .layers)) (leb 1 column && ltb column (r .site .columns)) e in
-          (leb-true _ _ (and-left (leb 1 column) (ltb column (r .site .columns)) t), ltb-true _ _ (and-right (leb 1 column) (ltb column (r .site .columns)) t))
+      in-bounds : (1 ≤ layer) × (layer ≤ r .site .layers) × (1 ≤ column) × (column < r .site .columns)
+      unfolding isNamed isLayer isStored gridOf
+      in-bounds = cell-bounds (gridOf r) layer column e
 
       pub slot-asks : (1 ≤ layer) × (layer ≤ 20) × (1 ≤ column) × (column ≤ 50)
-      slot-asks = omega (arith, layer-in, column-in, counted .layers-most, counted .columns-most)
+      slot-asks = omega (arith, in-bounds, counted .layers-most, counted .columns-most)
 
       module _ (k : ℕ) (at : k ≡ slot (layer - 1) column) where
         column-is : suc (column - 1) ≡ column
-        column-is = omega (arith, column-in)
+        column-is = omega (arith, in-bounds)
 
         lost : lossAt vs (place (gridOf r) (layer - 1) column) ≡ getD (r .losses) k (pos 0)
         unfolding slot
-        lost = rw at (rw column-is at (loss-cell r v (layer - 1) (column - 1) (omega (arith, layer-in)) (omega (arith, column-in))))
+        lost = rw at (rw column-is at (loss-cell r v (layer - 1) (column - 1) (omega (arith, in-bounds)) (omega (arith, in-bounds))))
 
         deep : depthOf (getD (r .losses) k (pos 0)) (getD (r .storages) k 0) ≡ drawdown N vs (place (gridOf r) (layer - 1) column)
         unfolding depthAt slot
-        deep = rw at (rw column-is at (depth-column r v (layer - 1) (column - 1) (omega (arith, layer-in)) (omega (arith, column-in))))
+        deep = rw at (rw column-is at (depth-column r v (layer - 1) (column - 1) (omega (arith, in-bounds)) (omega (arith, in-bounds))))
 
         pub cell-asks : Shallow (getD (r .losses) k (pos 0)) (getD (r .storages) k 0)
         unfolding networkOf gridOf
-        cell-asks = place-asks (place (gridOf r) (layer - 1) column) (rw column-is at (place-below (gridOf r) (layer - 1) (column - 1) (omega (arith, layer-in)) (omega (arith, column-in)))) _ _ lost deep
+        cell-asks = place-asks (place (gridOf r) (layer - 1) column) (rw column-is at (place-below (gridOf r) (layer - 1) (column - 1) (omega (arith, in-bounds)) (omega (arith, in-bounds)))) _ _ lost deep
 
         pub cell-depth : {d : ℕ} → pos d ≡ depthOf (getD (r .losses) k (pos 0)) (getD (r .storages) k 0) → Amount.Given (toZ w64 d) ≡ drawdownOf r (Cell layer column)
         unfolding drawdownOf isNamed isLayer isStored numberOf gridOf

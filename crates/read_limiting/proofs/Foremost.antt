@@ -4,12 +4,11 @@
 --     foremost-none, foremost-more     one number, and one more; less-more: with the value of f there
 use mathlib.Core.Path.{_≡_, refl, sym, ap, ap₂, _∙_}
 use mathlib.Core.Bool.{Bool, true, false, cond, true≢false}
-use mathlib.Core.Logic.{⊎-elim}
 use Prim.Native.Nat.{ℕ, zero, suc, _+_, _-_, _≤_, _<_}
 use native.Mathlib.Decide.{ℕ-discrete}
 use native.Mathlib.Omega.{arith}
 use lib.Dec.{ltb}
-use Rattle.laws.specs.Number.{below-or-not}
+use Rattle.laws.specs.Number.{neither-below}
 use Rattle.read_limiting.specs.Limiting.{foremost}
 use Rattle.read_limiting.specs.Slots.{lessAt}
 
@@ -20,13 +19,9 @@ pub record Foremost (before : ℕ → ℕ → Bool) (k n p : ℕ) : Type 0 where
   pub first : (q : ℕ) → k ≤ q → q < p → before p q ≡ true
 
 pub one-foremost : {before : ℕ → ℕ → Bool} {k n p q : ℕ} → Foremost before k n p → Foremost before k n q → p ≡ q
-one-foremost {before} {k} {n} {p} {q} f g = ⊎-elim
-    (λ lt. absurd (true≢false (sym (g .first p (f .least) lt) ∙ f .none q (g .least) (g .most))))
-    (λ le. ⊎-elim
-    (λ lt. absurd (true≢false (sym (f .first q (g .least) lt) ∙ g .none p (f .least) (f .most))))
-    (λ ge. omega arith)
-    (below-or-not q p))
-    (below-or-not p q)
+one-foremost {before} {k} {n} {p} {q} f g = neither-below p q
+    (λ lt. true≢false (sym (g .first p (f .least) lt) ∙ f .none q (g .least) (g .most)))
+    (λ lt. true≢false (sym (f .first q (g .least) lt) ∙ g .none p (f .least) (f .most)))
 
 pub record Order (before : ℕ → ℕ → Bool) : Type 0 where
   pub turned : (p q : ℕ) → before p q ≡ true → before q p ≡ false

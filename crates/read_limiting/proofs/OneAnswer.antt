@@ -2,14 +2,13 @@
 --     one-length     of no other place and length; one-bottom: of no other place
 use mathlib.Core.Path.{_≡_, sym, ap, ap₂, subst, _∙_}
 use mathlib.Core.Bool.{true, true≢false}
-use mathlib.Core.Logic.{⊎-elim}
 use Prim.Native.Nat.{ℕ, suc, _*_, _^_, _≤_, _<_}
 use native.Mathlib.Nat.{mul-le-mul-right}
 use native.Mathlib.Omega.{arith}
 use lib.Signed.{_≤ℤ_, _<ℤ_, clashℤ}
 use borrow.Author.Tests.{leb-true, le-leb, not-true, not-false}
 use Rattle.laws.specs.All.{all-at}
-use Rattle.laws.specs.Number.{below-or-not}
+use Rattle.laws.specs.Number.{neither-below}
 use Rattle.laws.specs.Rows.{all-from}
 use Rattle.network.specs.Network.{Network, storageAt, conductanceSum, stable, unstable}
 use Rattle.network.specs.Grid.{Grid, networkOf}
@@ -21,10 +20,6 @@ use Rattle.readings.specs.Readings.{isNamed, numberOf}
 use Rattle.readings.specs.Laws.{named-once}
 use Rattle.read_limiting.specs.declared.Limiting.{Limiting}
 use Rattle.read_limiting.specs.Reason.{depthAfter, OfLength, OfBottom}
-
--- of two numbers neither is below the other
-neither : (m n : ℕ) → (m < n → ⊥) → (n < m → ⊥) → m ≡ n
-neither m n f g = ⊎-elim (λ lt. absurd (f lt)) (λ le. ⊎-elim (λ lt. absurd (g lt)) (λ ge. omega arith) (below-or-not n m)) (below-or-not m n)
 
 -- what 8 lets pass it lets pass at every shorter length
 shorter-stable : (N : Network) (m n : ℕ) → m ≤ n → stable N n ≡ true → stable N m ≡ true
@@ -50,9 +45,9 @@ module _ (r : Record) (rate dt : ℕ) where
 
   pub one-length : {p q : Place} {m n : ℕ} → OfLength r rate dt p m → OfLength r rate dt q n → Limiting.TooLong p m ≡ Limiting.TooLong q n
   one-length {p} {q} {m} {n} f g =
-      let same : m ≡ n = neither m n (not-longer f g) (not-longer g f) in
+      let same : m ≡ n = neither-below m n (not-longer f g) (not-longer g f) in
       let h : OfLength r rate dt p n = subst (λ k. OfLength r rate dt p k) same f in
-      ap₂ Limiting.TooLong (named-once G p q (f .named) (g .named) (neither (numberOf G p) (numberOf G q) (not-earlier h g) (not-earlier g h))) same
+      ap₂ Limiting.TooLong (named-once G p q (f .named) (g .named) (neither-below (numberOf G p) (numberOf G q) (not-earlier h g) (not-earlier g h))) same
 
   -- ---- 11
 
@@ -67,4 +62,4 @@ module _ (r : Record) (rate dt : ℕ) where
       (subst (λ x. depthAfter r rate dt (Cell 1 (g .column)) ≤ℤ depthAfter r rate dt x) cell (f .deepest (g .column) there))
 
   pub one-bottom : {p q : Place} → OfBottom r rate dt p → OfBottom r rate dt q → p ≡ q
-  one-bottom f g = f .cell ∙ ap (Cell 1) (neither (f .column) (g .column) (not-inner f g) (not-inner g f)) ∙ sym (g .cell)
+  one-bottom f g = f .cell ∙ ap (Cell 1) (neither-below (f .column) (g .column) (not-inner f g) (not-inner g f)) ∙ sym (g .cell)

@@ -12,12 +12,11 @@ use native.Mathlib.Omega.{arith}
 use lib.Dec.{eqb, leb}
 use lib.IntN.{ℤ, pos}
 use lib.Signed.{_≤ℤ_, _<ℤ_, ltZ, ltZ-yes, clashℤ}
-use borrow.Author.Tests.{eqb-true, eqb-false, ltb-true, lt-ltb, le-ltb, le-leb, lt-leb, ne-eqb}
+use borrow.Author.Tests.{eqb-true, eqb-false, ltb-true, le-ltb, lt-leb, ne-eqb}
 use Rattle.laws.specs.All.{all-fails}
 use Rattle.laws.specs.Integer.{not-past, ≤ℤ-trans}
 use Rattle.laws.specs.Lists.{range}
 use Rattle.laws.specs.Number.{below-or-not}
-use Rattle.laws.specs.Rows.{both-hold}
 use Rattle.laws.specs.Sums.{none, range-mem}
 use Rattle.limits.specs.Limits.{rateLimit, lengthLimit}
 use Rattle.network.specs.Network.{Network, storageAt, drawdown, lossesAfter, conductanceSum, stable, unstable, lengthOut, rateOrLengthOut, wellTooDeep, tableTooDeep}
@@ -35,8 +34,8 @@ use Rattle.step_rules.specs.Laws.{step-outcome}
 use Rattle.step_rules.specs.Ready.{Ready}
 use Rattle.step_rules.proofs.Laws as step
 use Rattle.readings.specs.declared.Place.the-variants.{Well, Cell}
-use Rattle.readings.specs.Readings.{isLayer, isStored, isNamed, numberOf}
-use Rattle.readings.specs.Laws.{cell-named, cell-number, cell-bounds}
+use Rattle.readings.specs.Readings.{isNamed, numberOf}
+use Rattle.readings.specs.Laws.{cell-bounds, cell-named, named-cell}
 use Rattle.read_limiting.specs.declared.Limiting.{Limiting}
 use Rattle.read_limiting.specs.Limiting.{setsLimit, longestAt, shorterAt, shortestPlace, deeperAt, deepestColumn, nameOf, tooLongIn, pastBottomIn, limitingIn, limitingOf}
 use Rattle.read_limiting.specs.Reason.{numberIn, depthAfter, OfLength, OfBottom, OfNothing, Says, Agrees, Reason}
@@ -90,7 +89,7 @@ module _ (r : Record) (rate dt : ℕ) where
   unfolding nameOf onePerPlace isNamed numberOf
   named =
       by-place G (λ p. (isNamed G (nameOf G p) ≡ true) × (numberOf G (nameOf G p) ≡ p)) (refl, refl)
-      (λ i j hi hj. rw (getD-one G Well (λ i j. Cell (suc i) j) Well i j hi hj) (cell-named G i j hi hj, cell-number G i j))
+      (λ i j hi hj. rw (getD-one G Well (λ i j. Cell (suc i) j) Well i j hi hj) (named-cell G i j hi hj))
 
   -- ---- 8
 
@@ -242,9 +241,9 @@ module _ (r : Record) (rate dt : ℕ) where
     in-columns = (best .least, omega (arith, best .most, counts .columns-least))
 
     of-bottom : OfBottom r rate dt (Cell 1 column)
-    unfolding isNamed isLayer isStored numberOf deeperAt gridOf
+    unfolding numberOf deeperAt gridOf
     of-bottom = record {
-      named = both-hold (both-hold refl (le-leb 1 (r .site .layers) (omega (arith, counts .layers-least)))) (both-hold (le-leb 1 column (in-columns .0)) (lt-ltb column (r .site .columns) (in-columns .1)));
+      named = cell-named G 1 column (omega arith) (omega (arith, counts .layers-least)) (in-columns .0) (in-columns .1);
       column = column;
       cell = refl;
       past = passes (past (ltZ (pos (1000 * N .thickness)) (D column)) refl);

@@ -272,7 +272,7 @@ pub fn limiting_place(record: Record, rate: u64, dt: u64) -> Limiting
 }
 
 // A theorem, with nothing to run: whatever the record, the rate and the length, the answer gives the true reason, in terms of what `step` answers and of the
-// tests that it judges by.
+// tests that it judges by, and no other answer with its number does.
 pub fn true_reason()
     ensures { λ r. ⌜ ((rec : Record) (rate dt : ℕ) → Reason rec rate dt) ⌝ }
 {}

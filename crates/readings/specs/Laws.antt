@@ -1,13 +1,13 @@
 -- What the proofs of the readings share: laws only, nothing to believe.
 --     amount-refused, amount-given     the answer at the first test that holds, and where none does; balance-..: of the budget
 --     well-back, inflow-back           the machine reads back the well's loss and the inflow total as they are
---     cell-named, cell-number          a cell of a grid has its name, and by it its number
---     cell-bounds                      and its layer and column are among the grid's
+--     given-amount                     an answer with a value is refused by no number
+--     layer-bounds, column-bounds, cell-bounds, cell-named   a layer, a stored column and a named cell, by their numbers; named-cell: a cell's name and number
 --     named-place, place-named         what is named is a place, and each place is named; named-once: by one name
 --     equal-counts, equal-names, ..    grids with equal counts have as many places, with the same names and numbers
 --     read-depth                       the drawdown that is read at a named place
 use mathlib.Core.Path.{_≡_, refl, sym, ap, ap₂, _∙_}
-use mathlib.Core.Bool.{Bool, true, _&&_, true≢false}
+use mathlib.Core.Bool.{Bool, true, true≢false}
 use mathlib.Core.List.{List}
 use Prim.Native.Nat.{ℕ, zero, suc, _-_, _≤_, _<_, zero-le}
 use native.Mathlib.Omega.{arith}
@@ -58,6 +58,11 @@ module _ {ts : List (Bool × ℕ)} where
   unfolding balanceOf
   balance-given f e = rw (← first-is f) (ap Balance.Given e)
 
+pub given-amount : (n : ℕ) (x D : ℤ) → amountOf n x ≡ amountOf 0 D → (n ≡ 0) × (x ≡ D)
+unfolding amountOf
+given-amount zero x D e = (refl, cc)
+given-amount (suc n) x D e = let z : _≡_ {A = ℕ} 0 1 = cc in absurd (omega arith)
+
 -- ---- losses
 module _ (N : Network) (s : State) (kept : Kept N s) where
   one-loss : (p : ℕ) → p < N .places → natAbs (lossAt (s .losses) p) ≤ totalLimit
@@ -78,26 +83,29 @@ module _ (r : Record) (v : Valid r) where
 
 -- ---- names of places
 module _ (G : Grid) where
-  pub cell-named : (i j : ℕ) → i < G .layers → suc j < G .columns → isNamed G (Cell (suc i) (suc j)) ≡ true
-  unfolding isNamed isLayer isStored
-  cell-named i j h k =
-      both-hold (both-hold (le-leb 1 (suc i) (omega arith)) (le-leb (suc i) (G .layers) (omega arith))) (both-hold (le-leb 1 (suc j) (omega arith)) (lt-ltb (suc j) (G .columns) k))
+  pub layer-bounds : (i : ℕ) → isLayer G i ≡ true → (1 ≤ i) × (i ≤ G .layers)
+  unfolding isLayer
+  layer-bounds i e = (leb-true 1 i (and-left (leb 1 i) (leb i (G .layers)) e), leb-true i (G .layers) (and-right (leb 1 i) (leb i (G .layers)) e))
 
-  pub cell-number : (i j : ℕ) → numberOf G (Cell (suc i) (suc j)) ≡ place G i (suc j)
-  unfolding numberOf
-  cell-number i j = ap (λ n. place G n (suc j)) (omega arith)
+  pub column-bounds : (j : ℕ) → isStored G j ≡ true → (1 ≤ j) × (j < G .columns)
+  unfolding isStored
+  column-bounds j e = (leb-true 1 j (and-left (leb 1 j) (ltb j (G .columns)) e), ltb-true j (G .columns) (and-right (leb 1 j) (ltb j (G .columns)) e))
 
-  -- the layer and the column of a named cell
   pub cell-bounds : (i j : ℕ) → isNamed G (Cell i j) ≡ true → (1 ≤ i) × (i ≤ G .layers) × (1 ≤ j) × (j < G .columns)
-  unfolding isNamed isLayer isStored
+  unfolding isNamed
   cell-bounds i j e =
-      let layer = and-left (leb 1 i && leb i (G .layers)) (leb 1 j && ltb j (G .columns)) e in
-      let column = and-right (leb 1 i && leb i (G .layers)) (leb 1 j && ltb j (G .columns)) e in (
-        leb-true 1 i (and-left (leb 1 i) (leb i (G .layers)) layer),
-        leb-true i (G .layers) (and-right (leb 1 i) (leb i (G .layers)) layer),
-        leb-true 1 j (and-left (leb 1 j) (ltb j (G .columns)) column),
-        ltb-true j (G .columns) (and-right (leb 1 j) (ltb j (G .columns)) column),
-      )
+      let layer = layer-bounds i (and-left (isLayer G i) (isStored G j) e) in
+      let column = column-bounds j (and-right (isLayer G i) (isStored G j) e) in
+      (layer .0, layer .1, column .0, column .1)
+
+  pub cell-named : (i j : ℕ) → 1 ≤ i → i ≤ G .layers → 1 ≤ j → j < G .columns → isNamed G (Cell i j) ≡ true
+  unfolding isNamed isLayer isStored
+  cell-named i j a b c d = both-hold (both-hold (le-leb 1 i a) (le-leb i (G .layers) b)) (both-hold (le-leb 1 j c) (lt-ltb j (G .columns) d))
+
+  -- the cell of layer i, from 0, and column j + 1
+  pub named-cell : (i j : ℕ) → i < G .layers → suc j < G .columns → (isNamed G (Cell (suc i) (suc j)) ≡ true) × (numberOf G (Cell (suc i) (suc j)) ≡ place G i (suc j))
+  unfolding numberOf
+  named-cell i j h k = (cell-named (suc i) (suc j) (omega arith) (omega arith) (omega arith) k, ap (λ n. place G n (suc j)) (omega arith))
 
   pub named-place : (p : Place) → isNamed G p ≡ true → numberOf G p < networkOf G .places
   unfolding numberOf networkOf placeCount
@@ -128,7 +136,7 @@ module _ (G : Grid) where
 
   pub place-named : (n : ℕ) → n < networkOf G .places → (p : Place) × (isNamed G p ≡ true) × (numberOf G p ≡ n)
   unfolding isNamed numberOf networkOf
-  place-named = by-place G (λ n. (p : Place) × (isNamed G p ≡ true) × (numberOf G p ≡ n)) (Well, refl, refl) (λ i j h k. (Cell (suc i) (suc j), cell-named i j h k, cell-number i j))
+  place-named = by-place G (λ n. (p : Place) × (isNamed G p ≡ true) × (numberOf G p ≡ n)) (Well, refl, refl) (λ i j h k. let c = named-cell i j h k in (Cell (suc i) (suc j), c .0, c .1))
 
 -- of two grids
 module _ (G H : Grid) (layers : G .layers ≡ H .layers) (columns : G .columns ≡ H .columns) where

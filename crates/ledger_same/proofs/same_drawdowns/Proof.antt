@@ -15,7 +15,7 @@ use Rattle.record.specs.Record.{gridOf, stateOf}
 use Rattle.validity.specs.Validity.{equalℤ, valid}
 use Rattle.validity.specs.Laws.{equal, itself}
 use Rattle.readings.specs.Readings.{samenessOf, amountOf, isNamed, numberOf}
-use Rattle.readings.specs.Laws.{named-place, place-named, equal-names, equal-numbers, read-depth}
+use Rattle.readings.specs.Laws.{given-amount, named-place, place-named, equal-names, equal-numbers, read-depth}
 use Rattle.readings.specs.SameLaws.{same-answer}
 use Rattle.read_same.specs.Same.{Compares}
 use Rattle.read_same.specs.Laws.{compared}
@@ -26,10 +26,6 @@ use Rattle.ledger_same.proofs.same_drawdowns.Tie as tie
 either : (a b : Bool) → a ≡ b → (a || b) ≡ true → b ≡ true
 either true b e h = sym e
 either false b e h = h
-
-given : {a b : ℤ} → amountOf 0 a ≡ amountOf 0 b → a ≡ b
-unfolding amountOf
-given e = cc
 
 abbrev D : Record → ℕ → ℤ
 D r p = drawdown (networkOf (gridOf r)) (stateOf r .losses) p
@@ -69,7 +65,7 @@ module _ (r q : Record) (ok : valid r ≡ true) (fine : valid q ≡ true) where
           let p = place-named (gridOf r) n h in
           let there = sym (equal-names (gridOf r) (gridOf q) (s .layers) (s .columns) (p .0)) ∙ p .1 in
           let read = sym (read-depth r ok (p .0) (p .1)) ∙ s .depths (p .0) (rw (p .1) refl) ∙ read-depth q fine (p .0) there in
-          let same = ap (D r) (sym (p .2)) ∙ given read ∙ ap (D q) (sym (equal-numbers (gridOf r) (gridOf q) (s .layers) (s .columns) (p .0)) ∙ p .2) in
+          let same = ap (D r) (sym (p .2)) ∙ given-amount 0 _ _ read .1 ∙ ap (D q) (sym (equal-numbers (gridOf r) (gridOf q) (s .layers) (s .columns) (p .0)) ∙ p .2) in
           subst (λ x. equalℤ (D r n) x ≡ true) same (itself (D r n))
 
 rule : (r q : Record) → Compares r q (SameDrawdowns r q) (sameDrawdownsOf r q)
