@@ -224,4 +224,7 @@ agrees = both _ _ (both _ _ (both _ _ (both _ _ answer-agrees (length-agrees _ a
 -- and of a row whose sides differ it does not hold
 pub differs : Agree ((pos 0, pos 1) ∷ []) → ⊥
 unfolding Agree
-differs e = let z : _≡_ {A = ℕ} 0 1 = cc in absurd (omega arith)
+differs e =
+    let sides : _≡_ {A = List ℤ} (pos 0 ∷ []) (pos 1 ∷ []) = e in
+    let z : _≡_ {A = ℕ} 0 1 = cc in
+    absurd (omega arith)
