@@ -1,5 +1,7 @@
 // The quotients of `words` for the benchmark (bench/run-quotient) to link: no part of the model calls these functions. Each is one call, so
 // that a literal operand stands where a caller in Rattle has it.
+#![tactic(auto)]
+
 ghost use Rattle.std.specs.Prelude.{◌≡◌, ◌*◌, ◌/◌, ◌^◌, ◌<◌};
 
 use words::Quotient;

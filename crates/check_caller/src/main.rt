@@ -1,4 +1,6 @@
 // A caller of the library, as README shows it: the well's drawdown after one step of the scenario text on standard input, or a refusal number.
+#![tactic(auto)]
+
 use check_print::{print, print_integer, print_line_end, print_number};
 use libc::STDIN_FILENO;
 use readings::{Amount, Place};

@@ -1,6 +1,8 @@
 // Prints the controller's choice (document 02, N13) for each list of each choice text that an argument names, with the checksum of the record handed back; the
 // reference model prints the same (tests/stored). A choice text is a scenario text, an empty line, and numbers one a line: of each list the length of a step,
 // the number of steps, how many rates there are, and the rates.
+#![tactic(auto)]
+
 ghost use Rattle.std.specs.Prelude.{◌≤◌, length};
 
 use check_print::{

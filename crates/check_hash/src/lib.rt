@@ -1,5 +1,7 @@
 // The checksum of a record, FNV-1a of 64 bits over the numbers that it uses, for the programs held to the reference model; tests/README.md has
 // their order. Its functions promise nothing but to end: what they give is held to the model's.
+#![tactic(auto)]
+
 use check_print::size;
 use limits::{CELL_PLACES, LAYER_PLACES};
 use record::Record;

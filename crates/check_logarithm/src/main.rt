@@ -1,5 +1,7 @@
 // Prints Λ(p, q) for pairs over the whole range that rules 3 and 4 leave and for the worst of it, a line each: p, q, Λ. A test holds every
 // line to the true logarithm.
+#![tactic(auto)]
+
 ghost use Rattle.std.specs.Prelude.{◌*◌, ◌<◌, ◌≤◌};
 ghost use Rattle.limits.specs.Limits.{midsection_factor};
 

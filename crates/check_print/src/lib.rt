@@ -1,5 +1,7 @@
 // What the programs that are held to the reference model read and print: the file that an argument names, words, and numbers with a space before
 // them. Its functions promise nothing but to end: what they print is held to the model's.
+#![tactic(auto)]
+
 ghost use Rattle.io.specs.Counts.{IsPrefixLen};
 
 use libc::STDOUT_FILENO;

@@ -2,6 +2,8 @@
 // condition of 14 broken just barely beside its nearest allowed neighbour, and 9 by the pumped total and by the time. Then what holds that step
 // back, and one of the greatest length (document 02, N12), and what same answers of the changed record and the unchanged one, and of it and the one
 // before it in its group (N10). The reference model prints the same (tests/stored). The changes are chosen for bore K, and tried on every text.
+#![tactic(auto)]
+
 use check_print::{print, print_line_end, print_number, print_refusal, print_refused_scenario};
 use limits::LENGTH_LIMIT;
 use record::{Outcome, Record};

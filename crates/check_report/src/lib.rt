@@ -1,5 +1,7 @@
 // Prints the readings of a record as the reference model does (tests/README.md), for `check_scenarios`. Its functions promise nothing but to end:
 // what they print is held to the model's.
+#![tactic(auto)]
+
 ghost use Rattle.std.specs.Prelude.{◌≡◌, ◌≤◌, ◌<◌, length};
 
 use check_print::{print, print_integer, print_line_end, print_number, print_refusal, size};

@@ -1,4 +1,6 @@
 // Prints what the library makes of each scenario text that an argument names; the reference model prints the same (tests/stored).
+#![tactic(auto)]
+
 use check_print::{
     print, print_heading, print_line_end, print_number, print_refusal, print_refused_scenario,
 };

@@ -1,6 +1,6 @@
 -- Laws that this crate's proofs share: which slots are used, and what the code's numbers are by the definitions.
 use mathlib.Core.Path.{◌≡◌, refl, ap, ◌∙◌}
-use mathlib.Core.Bool.{Bool, true, false, and_false}
+use mathlib.Core.Bool.{Bool, true, false, and-false}
 use mathlib.Core.List.{List}
 use Prim.Native.Nat.{ℕ, zero, suc, ◌+◌, ◌-◌, ◌≤◌, ◌<◌}
 use native.Mathlib.Numerals.{add-one}
@@ -36,7 +36,7 @@ module _ (s : Site) (i j : ℕ) where
 
   pub no_column : s.columns ≤ j → is_cell s i j ≡ false
   unfolding is_cell
-  no_column h = rw (le-ltb j s.columns h) (and_false (ltb i s.layers))
+  no_column h = rw (le-ltb j s.columns h) (and-false (ltb i s.layers))
 
   pub cell : i < s.layers → j < s.columns → is_cell s i j ≡ true
   unfolding is_cell

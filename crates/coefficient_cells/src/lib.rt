@@ -1,4 +1,6 @@
 // C of the faces and S of the cells of a scenario whose numbers 2, 3 and 4 do not refuse, each in a word.
+#![tactic(auto)]
+
 ghost use Rattle.std.specs.Prelude.{◌≡◌, ◌<◌};
 ghost use Rattle.limits.specs.Limits.{layer_places};
 ghost use Rattle.record.specs.Record.{is_cell, has_below};

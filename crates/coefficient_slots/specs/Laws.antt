@@ -8,7 +8,7 @@
 use Rattle.std.specs.Prelude.{◌≡◌, Bool, ◌||◌, get_or}
 use Rattle.std.proofs.Math.Path.{refl, sym, ap, ap₂}
 use Rattle.std.proofs.Common.{subst, ◌∙◌, arith}
-use Rattle.std.proofs.Math.Bool.{true, false, cond, ◌&&◌, and_true}
+use Rattle.std.proofs.Math.Bool.{true, false, cond, ◌&&◌, and-true}
 use Rattle.std.proofs.lemmas.Bool.{false≢true}
 use mathlib.Core.List.{List, [], ◌∷◌, ◌++◌, map, flat_map}
 use Prim.Native.Nat.{ℕ, zero, suc, ◌+◌, ◌-◌, ◌/◌, ◌%◌, ◌≤◌, ◌<◌, zero-le}
@@ -73,7 +73,7 @@ module _ (G : Grid) where
   screen_small_lem i = by_test (G.screened i)
     where
       by_test : (t : Bool) → every small (cond t (across_face G i 0 ∷ []) []) ≡ cond t (leb (G.across i 0) conductance_limit) true
-      by_test true = and_true (leb (G.across i 0) conductance_limit)
+      by_test true = and-true (leb (G.across i 0) conductance_limit)
       by_test false = refl
 
   row_small_lem : (i : ℕ) → row_small i ≡ (screen_small i && every (λ j. leb (G.across i j) conductance_limit) (stored_columns G))

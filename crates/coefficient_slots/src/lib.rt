@@ -1,4 +1,6 @@
 // The slots of C and S: within their limits where a face or a cell uses them, 0 elsewhere.
+#![tactic(auto)]
+
 ghost use Rattle.std.specs.Prelude.{◌≡◌, ◌≤◌};
 ghost use Rattle.coefficient_slots.specs.Slots.{used_slot};
 ghost use Rattle.coefficient_slots.specs.Held.{inside, slot_holds, array_holds, screen_slot_holds, screen_array_holds, slots_hold};

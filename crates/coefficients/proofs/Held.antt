@@ -1,6 +1,6 @@
 -- What the test of the slots says, whose numbers are capped: it is that of 6, and where it holds no number was capped.
 use mathlib.Core.Path.{◌≡◌, refl, sym, ap, ◌∙◌}
-use mathlib.Core.Bool.{Bool, true, false, cond, ◌&&◌, and_true, and_false}
+use mathlib.Core.Bool.{Bool, true, false, cond, ◌&&◌, and-true, and-false}
 use mathlib.Core.List.{List}
 use mathlib.Core.Logic.{◌⊎◌, ⊎_elim}
 use Prim.Native.Nat.{ℕ, suc, ◌+◌, ◌-◌, ◌/◌, ◌%◌, ◌^◌, ◌≤◌, ◌<◌}
@@ -39,7 +39,7 @@ unfolding capped
 capped_over h = ap word_of (fitted_over h)
 
 past : (lo : ℕ) {hi n : ℕ} → hi < n → between lo hi n ≡ false
-past lo {hi} {n} h = rw (lt-leb n hi h) (and_false (leb lo n))
+past lo {hi} {n} h = rw (lt-leb n hi h) (and-false (leb lo n))
 
 within_capped : (lo hi n : ℕ) → hi < 2 ^ 64 - 1 → between lo hi (capped n) ≡ between lo hi n
 within_capped lo hi n h =
@@ -113,7 +113,7 @@ module _ (s : Site) (counts : counts_hold s ≡ true) where
           rw (screens, horizontals, verticals, stored)
           (slots-coefficients (slotted slot_of s) counts
           ∙ ap (coefficients_hold (grid_of (slotted slot_of s)) &&◌) none_left
-          ∙ and_true (coefficients_hold (grid_of (slotted slot_of s)))
+          ∙ and-true (coefficients_hold (grid_of (slotted slot_of s)))
           ∙ coefficients_ext (grid_of (slotted slot_of s)) (scenario_grid s) alike)
 
       -- ---- the answer

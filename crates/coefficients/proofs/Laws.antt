@@ -1,6 +1,6 @@
 -- Laws that this crate's proofs share: which layers the well has a face with, what an array filled whole is.
 use mathlib.Core.Path.{◌≡◌, ◌∙◌}
-use mathlib.Core.Bool.{and_false}
+use mathlib.Core.Bool.{and-false}
 use mathlib.Core.List.{List, map}
 use Prim.Native.Nat.{ℕ, ◌≤◌}
 use native.Mathlib.Omega.{arith}
@@ -17,7 +17,7 @@ use Rattle.coefficient_cells.specs.Worked.{slot_of}
 -- ---- the well's faces
 pub no_screen : (s : Site) (i n : ℕ) → (get_or s.screened i 0 ≡ 1 → ⊥) → 0 ≡ slot_of (has_screen s i) n
 unfolding has_screen is_screened slot_of
-no_screen s i n f = rw (ne_eqb (get_or s.screened i 0) 1 f, and_false (ltb i s.layers))
+no_screen s i n f = rw (ne_eqb (get_or s.screened i 0) 1 f, and-false (ltb i s.layers))
 
 pub screen_cell : (s : Site) (i n : ℕ) → get_or s.screened i 0 ≡ 1 → 2 ≤ s.columns → slot_of (is_cell s i 0) n ≡ slot_of (has_screen s i) n
 unfolding has_screen is_screened is_cell

@@ -1,4 +1,6 @@
 // The coefficients of a scenario, judged by rule 6, and the record at the start.
+#![tactic(auto)]
+
 ghost use Rattle.std.specs.Prelude.{◌≡◌, true, ◌<◌};
 ghost use Rattle.limits.specs.Limits.{layer_places};
 ghost use Rattle.site.specs.Site.{counts_hold, numbers_hold, radii_hold};

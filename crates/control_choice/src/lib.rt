@@ -1,6 +1,8 @@
 // A pump controller's choice (document 02, N13): of a list of rates the highest at which so many steps in a row are all accepted. It stands above the model
 // and makes calls of `step::repeat`; the record handed in is handed back.
 // Rates are in ml/s, lengths of steps in µs.
+#![tactic(auto)]
+
 ghost use Rattle.std.specs.Prelude.{◌≡◌, true, List, ℕ, ◌≤◌, length};
 ghost use Rattle.record.specs.declared.Record.{Record};
 ghost use Rattle.validity.specs.Validity.{valid};

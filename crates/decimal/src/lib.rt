@@ -1,4 +1,6 @@
 // Decimal whole numbers: digits to number and number to digits.
+#![tactic(auto)]
+
 ghost use Rattle.std.specs.Prelude.{◌≡◌, true, cond, ◌+◌, ◌-◌, ◌*◌, ◌^◌, ◌≤◌, ◌<◌, length, set};
 ghost use Rattle.laws.specs.Lists.{every};
 ghost use Rattle.limits.specs.Limits.{digit_limit};
@@ -27,7 +29,7 @@ pub struct Digits {
 }
 
 // Whether a byte is one of the ten digits.
-fn is_digit_lem(c: u8) -> bool
+fn is_digit(c: u8) -> bool
     ensures { result ≡ is_digit c }
 {
     ZERO <= c && c <= ZERO + 9

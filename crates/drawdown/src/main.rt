@@ -1,5 +1,7 @@
 // Reads a scenario text from standard input and prints its listing. What cannot be read or written is said on standard error, and a text that
 // could not be read whole gets no answer.
+#![tactic(auto)]
+
 use libc::{EPIPE, STDERR_FILENO, STDIN_FILENO};
 
 fn say(what: &[u8]) {

@@ -1,4 +1,6 @@
 // Geometry to coefficients, a function for each rule of document 01. What they ask of their callers are the limits of rules 3 and 4.
+#![tactic(auto)]
+
 ghost use Rattle.std.specs.Prelude.{◌≡◌, cond, ◌||◌, ℕ, ◌+◌, ◌*◌, ◌/◌, ◌<◌, ◌≤◌, ◌^◌, eqb};
 ghost use Rattle.limits.specs.Limits.{midsection_factor};
 ghost use Rattle.words.specs.Fitted.{fitted};

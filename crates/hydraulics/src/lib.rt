@@ -1,5 +1,7 @@
 // The formulas of head loss on numbers, in binary64, each operation rounded once in the order that document 01 writes.
 // Lengths are mm, areas mm², water nl, dt µs, flows l/s, velocities m/s, head losses m.
+#![tactic(auto)]
+
 ghost use Rattle.std.specs.Prelude.{◌≡◌, ◌^◌, ◌≤◌, pos, neg_ℤ, nat_abs};
 ghost use Rattle.limits.specs.Limits.{length_limit, total_limit};
 ghost use Rattle.hydraulics.specs.Hydraulics.{float, Exactly, absolute, millionths, inflow_of, wall_velocity, law_of, screen_loss, velocity, pipe_loss};

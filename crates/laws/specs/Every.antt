@@ -4,7 +4,7 @@
 use Rattle.std.specs.Prelude.{◌≡◌, Bool, true, false, ◌&&◌, length, get_or}
 use Rattle.std.proofs.Math.Path.{refl, sym, ap}
 use Rattle.std.proofs.Common.{◌∙◌, le_of_suc-le-suc, not-suc-le-zero}
-use Rattle.std.proofs.Math.Bool.{and_assoc, and_false}
+use Rattle.std.proofs.Math.Bool.{and_assoc, and-false}
 use mathlib.Core.List.{List, [], ◌∷◌, ◌++◌}
 use Prim.Native.Nat.{ℕ, zero, suc, ◌<◌}
 use Rattle.laws.specs.All.{and_left, and_right}
@@ -26,4 +26,4 @@ module _ {A : Type 0} (p : A → Bool) where
   unfolding every
   every_fails [] k d e h = absurd (not-suc-le-zero h)
   every_fails (a ∷ l) zero d e h = ap (◌&& every p l) e
-  every_fails (a ∷ l) (suc k) d e h = ap (p a &&◌) (every_fails l k d e (le_of_suc-le-suc h)) ∙ and_false (p a)
+  every_fails (a ∷ l) (suc k) d e h = ap (p a &&◌) (every_fails l k d e (le_of_suc-le-suc h)) ∙ and-false (p a)

@@ -5,7 +5,7 @@
 use Rattle.std.specs.Prelude.{◌≡◌, Bool, true, false, ◌&&◌, get_or, drop}
 use Rattle.std.proofs.Math.Path.{refl, ap, ap₂}
 use Rattle.std.proofs.Common.{◌∙◌, add-one, arith}
-use Rattle.std.proofs.Math.Bool.{and_false}
+use Rattle.std.proofs.Math.Bool.{and-false}
 use Rattle.std.proofs.lemmas.Bool.{false≢true}
 use mathlib.Core.List.{List, [], ◌∷◌}
 use Prim.Native.Nat.{ℕ, suc, ◌+◌, ◌≤◌, ◌<◌}
@@ -44,7 +44,7 @@ module _ {A : Type 0} (t : A → A → Bool) where
   unequal_lengths [] [] f = absurd (f refl)
   unequal_lengths [] (b ∷ m) f = refl
   unequal_lengths (a ∷ l) [] f = refl
-  unequal_lengths (a ∷ l) (b ∷ m) f = ap (t a b &&◌) (unequal_lengths l m (λ e. f (ap suc e))) ∙ and_false (t a b)
+  unequal_lengths (a ∷ l) (b ∷ m) f = ap (t a b &&◌) (unequal_lengths l m (λ e. f (ap suc e))) ∙ and-false (t a b)
 
   pub pairwise_equal : ((a b : A) → t a b ≡ true → a ≡ b) → (l m : List A) → pairwise t l m ≡ true → l ≡ m
   unfolding pairwise

@@ -20,7 +20,7 @@ use Rattle.laws.specs.Lists.{sumℕ, sumℤ, range}
 use Rattle.laws.specs.Sums.{Room, room_more}
 
 pub back : (z : ℤ) → mag z < 2 ^ 63 → to_z w64 (of_z w64 z) ≡ z
-back z h = to_z-of_z (record { sfits = h })
+back z h = to_z-of_z {w = w64} {z = z} (record { sfits = h })
 
 pub read : {n : ℕ} → n < 2 ^ 63 → to_z w64 n ≡ pos n
 read h = to_z_pos w64 h
@@ -79,7 +79,7 @@ module _ {limit : ℕ} {v : ℤ} {ts : List ℤ} (r : Room limit v ts) where
 pub room_sum : {A : Type 0} {limit : ℕ} {v : ℤ} (g : A → ℤ) (l : List A) → Room limit v (map g l) → nat_abs (v +ℤ sumℤ l g) ≤ limit
 unfolding sumℤ sumℕ
 room_sum {v = v} g [] r = rw (+ℤ_idr v) (omega (arith, r.rises))
-room_sum {v = v} g (a ∷ l) r = rw (sym (+ℤ_assoc v (g a) (sumℤ l g))) (room_sum g l (room_more r))
+room_sum {v = v} g (a ∷ l) r = rw (sym (+ℤ_assoc v (g a) (sumℤ l g))) (room_sum {v = v +ℤ g a} g l (room_more r))
 
 -- one number more at the end of a sum over a range
 sum_more : (g : ℕ → ℤ) (k n : ℕ) → sumℤ (range k (suc n)) g ≡ sumℤ (range k n) g +ℤ g (k + n)

@@ -23,39 +23,39 @@ use Rattle.laws.specs.Lists.{ifℕ, ifℤ, sumℕ, sumℤ, range, some}
 module _ (t : Bool) where
   pub ifℕ_zero : ifℕ t 0 ≡ 0
   unfolding ifℕ
-  ifℕ_zero = elim t [ true ↦ refl | false ↦ refl ]
+  ifℕ_zero = elim t as (λ t. ifℕ t 0 ≡ 0) [ true ↦ refl | false ↦ refl ]
 
   pub ifℕ_le : (x : ℕ) → ifℕ t x ≤ x
   unfolding ifℕ
-  ifℕ_le x = elim t [ true ↦ le_refl x | false ↦ zero-le ]
+  ifℕ_le x = elim t as (λ t. ifℕ t x ≤ x) [ true ↦ le_refl x | false ↦ zero-le ]
 
   pub ifℕ_add : (x y : ℕ) → ifℕ t (x + y) ≡ ifℕ t x + ifℕ t y
   unfolding ifℕ
-  ifℕ_add x y = elim t [ true ↦ refl | false ↦ refl ]
+  ifℕ_add x y = elim t as (λ t. ifℕ t (x + y) ≡ ifℕ t x + ifℕ t y) [ true ↦ refl | false ↦ refl ]
 
   pub ifℕ-swap : (u : Bool) (x : ℕ) → ifℕ t (ifℕ u x) ≡ ifℕ u (ifℕ t x)
   unfolding ifℕ
-  ifℕ-swap u x = elim t [ true ↦ refl | false ↦ elim u [ true ↦ refl | false ↦ refl ] ]
+  ifℕ-swap u x = elim t as (λ t. ifℕ t (ifℕ u x) ≡ ifℕ u (ifℕ t x)) [ true ↦ refl | false ↦ elim u as (λ u. 0 ≡ ifℕ u 0) [ true ↦ refl | false ↦ refl ] ]
 
   pub ifℤ_add : (x y : ℤ) → ifℤ t (x +ℤ y) ≡ ifℤ t x +ℤ ifℤ t y
   unfolding ifℤ
-  ifℤ_add x y = elim t [ true ↦ refl | false ↦ refl ]
+  ifℤ_add x y = elim t as (λ t. ifℤ t (x +ℤ y) ≡ ifℤ t x +ℤ ifℤ t y) [ true ↦ refl | false ↦ refl ]
 
   pub plus_if : (z : ℤ) → plus (ifℤ t z) ≡ ifℕ t (plus z)
   unfolding ifℤ ifℕ
-  plus_if z = elim t [ true ↦ refl | false ↦ refl ]
+  plus_if z = elim t as (λ t. plus (ifℤ t z) ≡ ifℕ t (plus z)) [ true ↦ refl | false ↦ refl ]
 
   pub minus_if : (z : ℤ) → minus (ifℤ t z) ≡ ifℕ t (minus z)
   unfolding ifℤ ifℕ
-  minus_if z = elim t [ true ↦ refl | false ↦ refl ]
+  minus_if z = elim t as (λ t. minus (ifℤ t z) ≡ ifℕ t (minus z)) [ true ↦ refl | false ↦ refl ]
 
   pub ifℤ_pos : (x : ℕ) → ifℤ t (pos x) ≡ pos (ifℕ t x)
   unfolding ifℤ ifℕ
-  ifℤ_pos x = elim t [ true ↦ refl | false ↦ refl ]
+  ifℤ_pos x = elim t as (λ t. ifℤ t (pos x) ≡ pos (ifℕ t x)) [ true ↦ refl | false ↦ refl ]
 
   pub ifℤ_diff : (z : ℤ) (h k : ℕ) → z ≡ pos h -ℤ pos k → ifℤ t z ≡ pos (ifℕ t h) -ℤ pos (ifℕ t k)
   unfolding ifℤ ifℕ
-  ifℤ_diff z h k e = elim t [ true ↦ e | false ↦ refl ]
+  ifℤ_diff z h k e = elim t as (λ t. ifℤ t z ≡ pos (ifℕ t h) -ℤ pos (ifℕ t k)) [ true ↦ e | false ↦ refl ]
 
   pub ifℤ_less : (z : ℤ) (h k : ℕ) → z ≡ pos h -ℤ pos k → neg_ℤ (ifℤ t z) ≡ pos (ifℕ t k) -ℤ pos (ifℕ t h)
   ifℤ_less z h k e = ap neg_ℤ (ifℤ_diff z h k e) ∙ diff_neg (ifℕ t h) (ifℕ t k)
@@ -106,7 +106,7 @@ module _ {A : Type 0} where
   ifℕ-sum false l g = sym (sumℕ_zero l (λ a m. refl))
 
   -- one term is at most the sum
-  pub sumℕ_one : {l : List A} {a : A} (g : A → ℕ) → Memᴰ a l → g a ≤ sumℕ l g
+  pub sumℕ_one : {a : A} {l : List A} (g : A → ℕ) → Memᴰ a l → g a ≤ sumℕ l g
   unfolding sumℕ
   sumℕ_one g (Memᴰ.head e) = rw e (omega arith)
   sumℕ_one g (Memᴰ.tail m) = omega (arith, sumℕ_one g m)
@@ -230,7 +230,7 @@ or_no false u e = (refl, e)
 
 module _ {A : Type 0} (t : A → Bool) where
   -- where it holds of none, it does not hold of one
-  pub none_at : {l : List A} {a : A} → some l t ≡ false → Memᴰ a l → t a ≡ false
+  pub none_at : {a : A} {l : List A} → some l t ≡ false → Memᴰ a l → t a ≡ false
   unfolding some
   none_at e (Memᴰ.head {x = x} {xs = l} q) = rw q (or_no (t x) (some l t) e).0
   none_at e (Memᴰ.tail {x = x} {xs = l} m) = none_at (or_no (t x) (some l t) e).1 m

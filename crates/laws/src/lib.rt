@@ -1,1 +1,2 @@
 // The vocabulary of the definitions, and laws for the proofs of the other crates; no code.
+#![tactic(auto)]

@@ -1,4 +1,6 @@
 // Demand 3 over every run: a theorem, and no code.
+#![tactic(auto)]
+
 ghost use Rattle.std.specs.Prelude.{◌≡◌, List, ℕ};
 ghost use Rattle.record.specs.Record.{outcome_of};
 ghost use Rattle.scenario.specs.Scenario.{start_of};

@@ -1,4 +1,6 @@
 // Levels after the pump stops (document 02, N14): a theorem, and no code.
+#![tactic(auto)]
+
 ghost use Rattle.std.specs.Prelude.{◌≡◌, true, List, ℕ};
 ghost use Rattle.laws.specs.Lists.{every};
 ghost use Rattle.record.specs.declared.Record.{Record};

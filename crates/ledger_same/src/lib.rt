@@ -1,4 +1,6 @@
 // What a yes of same is worth (document 02, N10): three theorems, and no code.
+#![tactic(auto)]
+
 ghost use Rattle.std.specs.Prelude.{◌≡◌, true, List, ℕ};
 ghost use Rattle.record.specs.declared.Record.{Record};
 ghost use Rattle.step.specs.Repeat.{repeat_of};

@@ -1,5 +1,6 @@
 // The limits and sizes of document 01, as document 02 changes them, each once and under a name, in the order of its sections. What the definitions
 // call them is in specs/.
+#![tactic(auto)]
 
 // The scenario text: bytes, and digits of a number.
 pub const TEXT_LIMIT: usize = 65536;

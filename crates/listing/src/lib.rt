@@ -1,4 +1,6 @@
 // The listing of a scenario text, piece by piece: each piece is a line, and the record from which the next entry runs.
+#![tactic(auto)]
+
 ghost use Rattle.std.specs.Prelude.{◌≡◌, true, [], ◌≤◌, length};
 ghost use Rattle.listing_lines.specs.Lines.{HoldsLine};
 ghost use Rattle.listing.specs.Listing.{header_line, scenario_line, piece, opening_of, next_of};

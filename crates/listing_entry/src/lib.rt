@@ -1,4 +1,6 @@
 // The line of a pumping entry.
+#![tactic(auto)]
+
 ghost use Rattle.std.specs.Prelude.{◌≡◌, ℤ};
 ghost use Rattle.readings.specs.Readings.{amount_of, balance_of};
 ghost use Rattle.listing_lines.specs.Lines.{HoldsLine};

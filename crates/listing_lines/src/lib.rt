@@ -1,4 +1,6 @@
 // A line of the listing as bytes, which grows word by word and figure by figure.
+#![tactic(auto)]
+
 ghost use Rattle.std.specs.Prelude.{◌≡◌, [], ◌∷◌, ◌++◌, ◌+◌, ◌≤◌, ◌<◌, pos, length, ◌≤ℤ◌};
 ghost use Rattle.decimal.specs.Decimal.{digits_of};
 ghost use Rattle.listing_lines.specs.Lines.{figure_of, field_bytes, line_bytes, held};

@@ -1,4 +1,6 @@
 // Prints the listing of a scenario text on standard output, each entry's line as the entry ends.
+#![tactic(auto)]
+
 ghost use Rattle.std.specs.Prelude.{◌≤◌, length};
 
 use libc::STDOUT_FILENO;

@@ -1,4 +1,6 @@
 // The run of a pumping entry.
+#![tactic(auto)]
+
 ghost use Rattle.std.specs.Prelude.{◌≡◌};
 ghost use Rattle.listing_runs.specs.Runs.{run_of};
 

@@ -1,5 +1,7 @@
 // The pipe of a well, layer by layer: the flow in it, its velocity and its head loss, in binary64 in the order that document 01 writes.
 // Lengths are mm, flows l/s, velocities m/s, head losses m.
+#![tactic(auto)]
+
 ghost use Rattle.std.specs.Prelude.{◌≡◌, true, cond, ◌∷◌, ◌<◌, ◌≤◌, eqb, pos};
 ghost use Rattle.site.specs.Site.{is_screened};
 ghost use Rattle.hydraulics.specs.Hydraulics.{◌⊕◌};

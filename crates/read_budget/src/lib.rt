@@ -1,4 +1,6 @@
 // The water budget of a record with its mark, and the storage loss of a set of its places.
+#![tactic(auto)]
+
 ghost use Rattle.std.specs.Prelude.{◌≡◌, not, map, ◌+◌, ◌*◌, ◌-◌, ◌≤◌, ◌<◌, eqb, pos, length};
 ghost use Rattle.laws.specs.Lists.{ifℤ, sumℤ, range};
 ghost use Rattle.laws.specs.Sums.{Room};

@@ -6,7 +6,7 @@
 --     sum_codes, count_codes     sums over them, layer by layer and column by column; there are deep_count of them
 --     times-codes                each code of a deep cell stands in them once, and no other
 use mathlib.Core.Path.{◌≡◌, refl, sym, ap, ap₂, ◌∙◌}
-use mathlib.Core.Bool.{Bool, true, false, cond, ◌&&◌, and_false, false≢true}
+use mathlib.Core.Bool.{Bool, true, false, cond, ◌&&◌, and-false, false≢true}
 use mathlib.Core.List.{List, [], ◌∷◌, ◌++◌, append-nil}
 use Prim.Native.Nat.{ℕ, zero, suc, ◌+◌, ◌*◌, ◌-◌, ◌/◌, ◌%◌, ◌≤◌, ◌<◌, zero-le}
 use native.Mathlib.Nat.{add-zero, mul_comm}
@@ -124,7 +124,7 @@ module _ (r : Record) where
 
   pub not-stored : (j : ℕ) → r.site.columns ≤ j → is_stored (grid_of r) j ≡ false
   unfolding is_stored grid_of
-  not-stored j h = rw (le-ltb j r.site.columns h) (and_false (leb 1 j))
+  not-stored j h = rw (le-ltb j r.site.columns h) (and-false (leb 1 j))
 
 module _ (r : Record) (D : ℕ) where
   abbrev n : ℕ

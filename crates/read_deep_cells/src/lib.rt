@@ -1,5 +1,7 @@
 // The cells of a record that are deeper than a given drawdown, each once in a lent list: by drawdown falling, then layer rising, then column rising.
 // D is in µm.
+#![tactic(auto)]
+
 ghost use Rattle.std.specs.Prelude.{◌≡◌, List, map, ℕ, ◌≤◌, ◌<◌, ◌%◌, length};
 ghost use Rattle.limits.specs.Limits.{drawdown_limit};
 ghost use Rattle.record.specs.declared.Record.{Record};

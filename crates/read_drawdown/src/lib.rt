@@ -1,4 +1,6 @@
 // The drawdown at a place of a record.
+#![tactic(auto)]
+
 ghost use Rattle.std.specs.Prelude.{◌≡◌, ◌&&◌, leb, ltb};
 ghost use Rattle.readings.specs.Readings.{drawdown_of};
 

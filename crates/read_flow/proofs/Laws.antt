@@ -4,7 +4,7 @@
 --     End                         an end: its V, S and D by slot and by place
 --     across_rule_lem to fits_from       the face that leads from one end to another; then its water in a step that 7 and 8 allow
 use mathlib.Core.Path.{◌≡◌, refl, sym, ap, ap₂, ◌∙◌}
-use mathlib.Core.Bool.{Bool, true, false, cond, ◌&&◌, ◌||◌, and_false, true≢false}
+use mathlib.Core.Bool.{Bool, true, false, cond, ◌&&◌, ◌||◌, and-false, true≢false}
 use mathlib.Core.Logic.{⊎_elim}
 use mathlib.Core.List.{List}
 use Prim.Native.Nat.{ℕ, zero, suc, ◌+◌, ◌*◌, ◌-◌, ◌≤◌, ◌<◌, zero-le}
@@ -75,7 +75,7 @@ module _ (q : Record) (s : Site) (e : q.site ≡ s) where
   pub no_layer : (a : Place) (k l : ℕ) → (leb 1 k && leb k s.layers) ≡ false → false ≡ leads (grid_of q) a (Cell k l)
   unfolding leads is_layer grid_of
   no_layer Well k l h = rw (e, h)
-  no_layer (Cell i j) k l h = rw (e, h, and_false)
+  no_layer (Cell i j) k l h = rw (e, h, and-false)
 
   module _ (k l : ℕ) (layer : (leb 1 k && leb k s.layers) ≡ true) where
     pub from_well_lem : (eqb (get_or s.screened (k - 1) 0) 1 && eqb l 1) ≡ leads (grid_of q) Well (Cell k l)

@@ -6,7 +6,7 @@
 use Rattle.std.specs.Prelude.{◌≡◌, Bool, cond, not, ◌&&◌, ◌||◌, leb, ltb, ℤ, neg_ℤ}
 use Rattle.std.proofs.Math.Path.{refl}
 use Rattle.std.proofs.Common.{sym, ap, ◌∙◌, arith}
-use Rattle.std.proofs.Math.Bool.{true, false, and_false}
+use Rattle.std.proofs.Math.Bool.{true, false, and-false}
 use Rattle.std.proofs.lemmas.Bool.{false≢true}
 use mathlib.Core.List.Memᴰ
 use mathlib.Core.List.{[], ◌∷◌, map, flat_map, Memᴰ}
@@ -68,8 +68,8 @@ module _ (G : Grid) where
   pub one_way : {a b : Place} → Led G a b → leads G b a ≡ false
   unfolding leads
   one_way (screen k₁ k₂ s e) = refl
-  one_way (across {i} {j} {k} {l} i₁ i₂ j₁ j₂ e f) = rw (ne_eqb j (suc l) (λ q. absurd (omega arith)), ne_eqb i (suc k) (λ q. absurd (omega arith)), and_false, and_false)
-  one_way (down {i} {j} {k} {l} i₁ i₂ j₁ j₂ e f) = rw (ne_eqb i k (λ q. absurd (omega arith)), ne_eqb i (suc k) (λ q. absurd (omega arith)), and_false)
+  one_way (across {i} {j} {k} {l} i₁ i₂ j₁ j₂ e f) = rw (ne_eqb j (suc l) (λ q. absurd (omega arith)), ne_eqb i (suc k) (λ q. absurd (omega arith)), and-false, and-false)
+  one_way (down {i} {j} {k} {l} i₁ i₂ j₁ j₂ e f) = rw (ne_eqb i k (λ q. absurd (omega arith)), ne_eqb i (suc k) (λ q. absurd (omega arith)), and-false)
 
 -- what is left to judge where there is a face
 judged : (u w : Bool) (x : ℤ) → amount_of (first ((u, 7) ∷ (w, 8) ∷ [])) (neg_ℤ x) ≡ opposite (amount_of (first ((u, 7) ∷ (w, 8) ∷ [])) x)

@@ -1,4 +1,6 @@
 // The water of one face between two ends that a reader names, for a step not taken.
+#![tactic(auto)]
+
 ghost use Rattle.std.specs.Prelude.{◌≡◌, true, ℕ, ◌*◌, ◌-◌, ◌^◌, ◌≤◌, ◌<◌, pos, get_or, ◌≤ℤ◌};
 ghost use Rattle.limits.specs.Limits.{length_limit, drawdown_limit};
 ghost use Rattle.network.specs.Network.{flow, stable};
@@ -135,7 +137,7 @@ fn ahead(record: Record, from: Place, to: Place, dt: u64) -> i64
         to,
     );
     let site = record.site;
-    let c = in_use_lem(
+    let c = in_use(
         site,
         &record.screen,
         &record.horizontal,

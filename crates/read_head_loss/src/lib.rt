@@ -1,5 +1,7 @@
 // Head loss of one screened layer for a step not taken, in binary64, each operation rounded once in the order that document 01 writes.
 // Lengths are mm, areas mm², water nl, dt µs, flows l/s, velocities m/s, head losses m.
+#![tactic(auto)]
+
 ghost use Rattle.std.specs.Prelude.{◌≡◌, ◌&&◌, ℕ, ◌-◌, ◌<◌, ◌≤◌, leb, neg_ℤ};
 ghost use Rattle.laws.specs.Fill.{fill};
 ghost use Rattle.limits.specs.Limits.{length_limit, drawdown_limit};

@@ -1,5 +1,7 @@
 // What would hold back a step not taken (document 02, N12): where it would be refused with 8, 10 or 11, the place that brings this about.
 // C is in 10^-12 m²/s, S in nl per m, V in nl, D in µm, the rate in ml/s, lengths of steps in µs.
+#![tactic(auto)]
+
 ghost use Rattle.std.specs.Prelude.{◌≡◌, cond, ℕ, suc, ◌-◌, ◌≤◌, ◌<◌, ltb, pos};
 ghost use Rattle.network.specs.Network.{losses_after};
 ghost use Rattle.network.specs.Grid.{network_of};

@@ -1,4 +1,6 @@
 // Whether two records are the same: all that they hold agrees, number by number (document 02, N10).
+#![tactic(auto)]
+
 ghost use Rattle.std.specs.Prelude.{◌≡◌, eqb};
 ghost use Rattle.laws.specs.Lists.{pairwise};
 ghost use Rattle.record.specs.declared.Record.{Record};

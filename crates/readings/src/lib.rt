@@ -1,4 +1,6 @@
 // The readings of a record in whole numbers: what a caller names and what it is answered.
+#![tactic(auto)]
+
 ghost use Rattle.std.specs.Prelude.{◌≡◌, true, ◌-◌, ◌≤◌, ◌<◌};
 ghost use Rattle.record.specs.Record.{slot};
 ghost use Rattle.validity.specs.Validity.{valid};

@@ -1,4 +1,6 @@
 // The record of a run, by value, and the answers that start, step and repeat give.
+#![tactic(auto)]
+
 ghost use Rattle.std.specs.Prelude.{◌≡◌};
 ghost use Rattle.record.specs.Record.{zero_record};
 

@@ -1,4 +1,6 @@
 // The scenario text: the record at the start of a run, and the pumping entries.
+#![tactic(auto)]
+
 ghost use Rattle.std.specs.Prelude.{◌≡◌, true, List, ℕ, ◌-◌, ◌<◌};
 ghost use Rattle.laws.specs.Lists.{first};
 ghost use Rattle.text.specs.Text.{numbers};

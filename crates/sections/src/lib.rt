@@ -1,6 +1,8 @@
 // The five sections of a scenario's numbers: their counts and lengths are judged, and what they hold is read.
 // The numbers stand in an array in the order of the text, with 0 after the last: it has one place more than a scenario has numbers, and of a
 // longer text it holds the first.
+#![tactic(auto)]
+
 ghost use Rattle.std.specs.Prelude.{◌≡◌, Bool, true, List, [], ◌∷◌, ◌++◌, ℕ, ◌≤◌, ◌<◌, ltb, get_or, length};
 ghost use Rattle.laws.specs.Lists.{padded, first};
 ghost use Rattle.limits.specs.Limits.{layer_places, column_places, number_places, entry_limit, entry_count, repeat_limits};

@@ -1,4 +1,6 @@
 // The numbers of a scenario's first four sections, and document 01's limits and rules for them.
+#![tactic(auto)]
+
 ghost use Rattle.std.specs.Prelude.{◌≡◌, ◌&&◌, true, ◌+◌, ◌*◌, ◌≤◌, leb, ltb, get_or, length};
 ghost use Rattle.laws.specs.Lists.{all_below};
 ghost use Rattle.limits.specs.Limits.{layer_count, column_count, coefficient_count, radius_limits, well_radius_limits, water_area_limits, intake_limits, friction_limits, midsection_factor};

@@ -6,7 +6,7 @@
 use Rattle.std.specs.Prelude.{◌≡◌, Bool, List, ltb, ℤ, pos, negsuc, ◌-ℤ◌, ◌*ℤ◌, get_or}
 use Rattle.std.proofs.Math.Path.{refl, ap, ap₂}
 use Rattle.std.proofs.Common.{sym, ◌∙◌, true≢false, zero-mul}
-use Rattle.std.proofs.Math.Bool.{true, false, and_false}
+use Rattle.std.proofs.Math.Bool.{true, false, and-false}
 use Prim.Native.Nat.{ℕ, zero, suc, ◌+◌, ◌*◌, ◌^◌, ◌≤◌, ◌<◌, zero-le}
 use Rattle.std.proofs.Math.Nat.{le_trans, zero-div}
 use native.Mathlib.Omega.{arith}
@@ -72,7 +72,7 @@ module _ (r : Record) (v : Valid r) (dt : ℕ) where
         where
           none : get_or r.screen i 0 ≡ 0
           none = unused_zero (has_screen r.site i) (get_or r.screen i 0) ((unused_each r v).screen i (omega (arith, (counted r v).layers_most)))
-              (rw e (and_false (ltb i r.site.layers)))
+              (rw e (and-false (ltb i r.site.layers)))
 
   module _ (st : stable N dt ≡ true) where
     pub screen_small_lem : (i : ℕ) → i < r.site.layers → nat_abs (well_water i) ≤ total_limit

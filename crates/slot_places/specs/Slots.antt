@@ -6,7 +6,7 @@
 use Rattle.std.specs.Prelude.{◌≡◌, Bool, true, false, not, ◌||◌, ◌⊎◌, List, ℕ, suc, ◌+◌, ◌*◌, ◌-◌, ◌/◌, ◌%◌, ◌^◌, ◌≤◌, ◌<◌, eqb, ltb, ℤ, negsuc, ◌*ℤ◌, ◌≤ℤ◌}
 use Rattle.std.proofs.Math.Path.{refl, sym, ap}
 use Rattle.std.proofs.Common.{ap₂, subst, ◌∙◌, true≢false, inr, zero-le}
-use Rattle.std.proofs.Math.Bool.{and_false}
+use Rattle.std.proofs.Math.Bool.{and-false}
 use Rattle.std.proofs.lemmas.Bool.{false≢true}
 use Rattle.std.proofs.Math.Logic.{⊎_elim}
 use mathlib.Core.List.Memᴰ
@@ -79,7 +79,7 @@ module _ (r : Record) (v : Valid r) where
   unfolding is_cell
   no_cell k u = ⊎_elim
       (λ below. rw (le-ltb (k / 50) r.site.layers (omega arith)))
-      (λ past. rw (le-ltb (k % 50 + 1) r.site.columns past) (and_false (ltb (k / 50) r.site.layers)))
+      (λ past. rw (le-ltb (k % 50 + 1) r.site.columns past) (and-false (ltb (k / 50) r.site.layers)))
       u
 
   pub none_lost : (k : ℕ) → k < 1000 → ((50 * r.site.layers ≤ k) ⊎ (r.site.columns ≤ k % 50 + 1)) → get_or r.losses k (pos 0) ≡ pos 0
@@ -93,17 +93,17 @@ module _ (r : Record) (v : Valid r) where
     pub across_past : get_or r.horizontal k 0 ≡ 0
     unfolding is_cell
     across_past = unused_zero (used_slot (is_cell r.site) k) (get_or r.horizontal k 0) (unused_each.across k h)
-        (rw (le-ltb (k % 50 + 1) r.site.columns past) (and_false (ltb (k / 50) r.site.layers)))
+        (rw (le-ltb (k % 50 + 1) r.site.columns past) (and-false (ltb (k / 50) r.site.layers)))
 
     pub down_past : get_or r.vertical k 0 ≡ 0
     unfolding has_below
     down_past = unused_zero (used_slot (has_below r.site) k) (get_or r.vertical k 0) (unused_each.down k h)
-        (rw (le-ltb (k % 50 + 1) r.site.columns past) (and_false (ltb (suc (k / 50)) r.site.layers)))
+        (rw (le-ltb (k % 50 + 1) r.site.columns past) (and-false (ltb (suc (k / 50)) r.site.layers)))
 
     pub storage_past : get_or r.storages k 0 ≡ 0
     unfolding is_cell
     storage_past = unused_zero (used_slot (is_cell r.site) k) (get_or r.storages k 0) (unused_each.storage k h)
-        (rw (le-ltb (k % 50 + 1) r.site.columns past) (and_false (ltb (k / 50) r.site.layers)))
+        (rw (le-ltb (k % 50 + 1) r.site.columns past) (and-false (ltb (k / 50) r.site.layers)))
 
     pub depth_past : depth k ≡ pos 0
     unfolding depth_at depth_of

@@ -1,4 +1,6 @@
 // Steps on a record: many equal ones, and one. 14, 7 and 8 are judged once, 9 to 11 at every step, and the record is rebuilt after the last.
+#![tactic(auto)]
+
 ghost use Rattle.std.specs.Prelude.{◌≡◌};
 ghost use Rattle.step_rules.specs.Step.{step_of};
 ghost use Rattle.step.specs.Repeat.{repeat_of};

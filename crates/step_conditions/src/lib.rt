@@ -1,4 +1,6 @@
 // The conditions 7, 9, 10 and 11 on a step, each judged by itself on numbers and lent arrays. Their order stands where a step is taken.
+#![tactic(auto)]
+
 ghost use Rattle.std.specs.Prelude.{◌≡◌, not, ◌*◌, ◌-◌, ◌<◌, ◌≤◌, pos, ◌≤ℤ◌};
 ghost use Rattle.limits.specs.Limits.{rate_limit, length_limit, total_limit, drawdown_limit};
 ghost use Rattle.network.specs.Network.{length_out, rate_or_length_out};

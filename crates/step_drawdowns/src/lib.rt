@@ -1,5 +1,7 @@
 // Drawdowns, by a plain quotient or, in a step that may be one of many, by a product with a multiplier of S that is worked out once.
 // V is in nl, S in nl per m, D in µm.
+#![tactic(auto)]
+
 ghost use Rattle.std.specs.Prelude.{◌≡◌, map, ℕ, ◌+◌, ◌*◌, ◌/◌, ◌≤◌, ◌<◌, ◌^◌, pos, ◌≤ℤ◌, get_or, replicate};
 ghost use Rattle.laws.specs.Span.{span, spans};
 ghost use Rattle.limits.specs.Limits.{drawdown_limit};

@@ -1,5 +1,7 @@
 // C in use and the water of the faces of a step, from the drawdowns at its start: arrays by slot, lent and filled.
 // C is in 10^-12 m²/s, D in µm, V and water in nl, times in µs, thicknesses in mm, areas in mm², Kv in nm/s.
+#![tactic(auto)]
+
 ghost use Rattle.std.specs.Prelude.{◌≡◌, map, ℕ, ◌+◌, ◌*◌, ◌≤◌, ◌<◌, ◌^◌, pos, nat_abs, get_or};
 ghost use Rattle.laws.specs.Fill.{fill};
 ghost use Rattle.laws.specs.Span.{span, spans};

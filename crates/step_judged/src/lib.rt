@@ -1,4 +1,6 @@
 // One step of a run on lent arrays, where 14, 7 and 8 let it pass: 9 to 11 are judged, and a step that is taken moves the losses and the course.
+#![tactic(auto)]
+
 ghost use Rattle.std.specs.Prelude.{◌≡◌, ◌+◌, ◌*◌, ◌-◌, ◌≤◌, ◌<◌, pos, ◌≤ℤ◌, get_or};
 ghost use Rattle.laws.specs.Fill.{fill};
 ghost use Rattle.laws.specs.Lists.{larger};

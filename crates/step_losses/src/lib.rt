@@ -1,5 +1,7 @@
 // Losses and the inflow total after a step, from the drawdowns and the losses at its start: arrays by slot, lent and filled.
 // C is in 10^-12 m²/s, D in µm, V and water in nl, times in µs. `down` is the water from a slot to the layer below.
+#![tactic(auto)]
+
 ghost use Rattle.std.specs.Prelude.{◌≡◌, [], ◌∷◌, ℕ, ◌+◌, ◌*◌, ◌-◌, ◌%◌, ◌≤◌, ◌<◌, pos, neg_ℤ, nat_abs, ◌+ℤ◌, ◌-ℤ◌, leb, get_or};
 ghost use Rattle.laws.specs.Span.{span, spans};
 ghost use Rattle.laws.specs.Lists.{ifℤ};

@@ -4,7 +4,7 @@
 use Rattle.std.specs.Prelude.{◌≡◌, refl, Bool, true, false, cond, List, [], ◌∷◌, map, eqb, ltb, ℤ, ◌-ℤ◌, get_or, replicate}
 use Rattle.std.proofs.Math.Path.{sym, ap, ap₂, subst}
 use Rattle.std.proofs.Common.{◌∙◌, zero-add, lt-ltb, le-ltb, ltb-true, ne_eqb}
-use Rattle.std.proofs.Math.Bool.{and_false}
+use Rattle.std.proofs.Math.Bool.{and-false}
 use Rattle.std.proofs.Math.Logic.{⊎_elim}
 use Prim.Native.Nat.{ℕ, suc, ◌+◌, ◌*◌, ◌-◌, ◌/◌, ◌%◌, ◌≤◌, ◌<◌, zero-le}
 use Rattle.std.proofs.Math.Nat.{le_trans}
@@ -193,7 +193,7 @@ module _ (r : Record) (v : Valid r) (rate dt : ℕ) where
   unfolding slot_after ifℤ is_cell
   slot-after z long none k h = ⊎_elim
       (λ lt. get_or-fill (slot_after a) z (50 * layers) k (pos 0) lt (omega arith) ∙ ⊎_elim (used lt)
-      (λ past. rw (le-ltb (k % 50 + 1) columns past, and_false (ltb (k / 50) layers)))
+      (λ past. rw (le-ltb (k % 50 + 1) columns past, and-false (ltb (k / 50) layers)))
       (below_or_not (k % 50 + 1) columns))
       (λ le. get_or-fill_rest (slot_after a) z (50 * layers) k (pos 0) le ∙ none k ∙ sym (rw (le-ltb (k / 50) layers (omega arith))))
       (below_or_not k (50 * layers))

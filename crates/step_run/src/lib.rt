@@ -1,4 +1,6 @@
 // The steps of a run on lent arrays, one after the other: 9 to 11 are judged at every step, where 14, 7 and 8 let the first pass.
+#![tactic(auto)]
+
 ghost use Rattle.std.specs.Prelude.{◌≡◌, true, ◌≤◌};
 ghost use Rattle.validity.specs.Validity.{valid};
 ghost use Rattle.step_drawdowns.specs.Drawdowns.{Stands};

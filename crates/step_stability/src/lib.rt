@@ -1,4 +1,6 @@
 // Condition 8 on a step: the sums of C of a place's faces, and what is judged by them.
+#![tactic(auto)]
+
 ghost use Rattle.std.specs.Prelude.{◌≡◌, true, ℕ, ◌<◌, ◌≤◌, get_or};
 ghost use Rattle.laws.specs.Lists.{all_below};
 ghost use Rattle.limits.specs.Limits.{conductance_limit};

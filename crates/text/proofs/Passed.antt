@@ -1,6 +1,6 @@
 -- A text read up to the start of a line, and what the next line makes of it.
 use mathlib.Core.Path.{◌≡◌, refl, sym, ◌∙◌}
-use mathlib.Core.Bool.{Bool, true, false, ◌&&◌, and_false}
+use mathlib.Core.Bool.{Bool, true, false, ◌&&◌, and-false}
 use mathlib.Core.List.{List, [], ◌∷◌, ◌++◌, append-nil, get_last_d}
 use Prim.Native.Nat.{ℕ, ◌+◌, ◌-◌, ◌<◌, ◌≤◌}
 use native.Mathlib.Omega.{arith}
@@ -27,7 +27,7 @@ module _ (s p rest : List ℕ) (e : pieces s ≡ p ∷ pieces rest) where
 
   bad_line : numeral p ≡ false → in_form s ≡ false
   unfolding every
-  bad_line d = rw (lines_line s p rest e, d) (and_false (eqb (length (unended s)) 0))
+  bad_line d = rw (lines_line s p rest e, d) (and-false (eqb (length (unended s)) 0))
 
   number_line : numbers s ≡ value p ∷ numbers rest
   unfolding numbers

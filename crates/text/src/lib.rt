@@ -1,4 +1,6 @@
 // The scenario text: its lines to numbers.
+#![tactic(auto)]
+
 ghost use Rattle.std.specs.Prelude.{◌≡◌, [], ◌+◌, ◌≤◌, length, get_or, drop, set};
 ghost use Rattle.limits.specs.Limits.{number_places};
 ghost use Rattle.text.specs.Text.{pieces, malformed, read_of};

@@ -1,6 +1,6 @@
 -- A record's losses and D by slot are those of its network by place.
 use mathlib.Core.Path.{◌≡◌, refl, sym, ap, ◌∙◌}
-use mathlib.Core.Bool.{Bool, true, false, ◌||◌, and_false, false≢true}
+use mathlib.Core.Bool.{Bool, true, false, ◌||◌, and-false, false≢true}
 use mathlib.Core.List.{map}
 use Prim.Native.Nat.{ℕ, suc, ◌+◌, ◌*◌, ◌-◌, ◌/◌, ◌%◌, ◌≤◌, ◌<◌}
 use native.Mathlib.Omega.{arith}
@@ -35,7 +35,7 @@ module _ (g : ℕ → ℕ) (n m : ℕ) (few : n ≤ 20) (one : 1 ≤ m) (narrow 
   past_columns : (i j : ℕ) → i < 20 → m - 1 ≤ j → j < 50 → g (i * 50 + j) ≡ 0
   past_columns i j h k l =
       let e : (i * 50 + j) % 50 + 1 ≡ j + 1 = omega arith in
-      zeros (i * 50 + j) (omega arith) (rw (e, le-ltb (j + 1) m (omega arith)) (and_false (ltb ((i * 50 + j) / 50) n)))
+      zeros (i * 50 + j) (omega arith) (rw (e, le-ltb (j + 1) m (omega arith)) (and-false (ltb ((i * 50 + j) / 50) n)))
 
   row : (i : ℕ) → i < 20 → sumℕ (range 0 50) (λ j. g (i * 50 + j)) ≡ sumℕ (range 1 (m - 1)) (λ j. g (slot i j))
   unfolding slot

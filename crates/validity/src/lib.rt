@@ -1,4 +1,6 @@
 // Which records 14 refuses, whatever stands in them.
+#![tactic(auto)]
+
 ghost use Rattle.std.specs.Prelude.{◌≡◌};
 ghost use Rattle.validity.specs.Validity.{valid};
 

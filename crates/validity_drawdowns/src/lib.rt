@@ -1,4 +1,6 @@
 // Every D of a record within its limit, and the mark.
+#![tactic(auto)]
+
 ghost use Rattle.std.specs.Prelude.{◌≡◌, true, ◌≤◌, ◌<◌, pos, ◌≤ℤ◌};
 ghost use Rattle.limits.specs.Limits.{drawdown_limit};
 ghost use Rattle.coefficient_slots.specs.Slots.{used_slot};

@@ -1,4 +1,6 @@
 // The scenario's numbers in a record, and the slots that none of them uses.
+#![tactic(auto)]
+
 ghost use Rattle.std.specs.Prelude.{◌≡◌, ◌&&◌};
 ghost use Rattle.limits.specs.Limits.{layer_count, column_count, coefficient_count};
 ghost use Rattle.validity_numbers.specs.Numbers.{zero_from, site_unused, site_holds};

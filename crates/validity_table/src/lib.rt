@@ -1,5 +1,7 @@
 // Whether a record keeps, as its C between layers 1 and 2, the value at s = 0 (document 02, N6). C is in 10^-12 m²/s, areas in mm², thicknesses in mm,
 // Kv in nm/s.
+#![tactic(auto)]
+
 ghost use Rattle.std.specs.Prelude.{◌≡◌, ◌≤◌, ◌<◌, ◌^◌, eqb};
 ghost use Rattle.geometry.specs.Geometry.{from_table};
 ghost use Rattle.coefficient_cells.specs.Worked.{InLimits};

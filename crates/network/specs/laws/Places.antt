@@ -6,7 +6,7 @@
 use Rattle.std.specs.Prelude.{◌≡◌, false, ◌&&◌, eqb, ltb}
 use Rattle.std.proofs.Math.Path.{refl, sym, ap, subst}
 use Rattle.std.proofs.Common.{◌∙◌, add-zero, zero-mul, mul-zero, mod-lt, div-add-mod', div-lt_iff_lt-mul}
-use Rattle.std.proofs.Math.Bool.{and_false}
+use Rattle.std.proofs.Math.Bool.{and-false}
 use mathlib.Core.List.{List, map, flat_map}
 use Prim.Native.Nat.{ℕ, zero, suc, ◌+◌, ◌*◌, ◌-◌, ◌/◌, ◌%◌, ◌≤◌, ◌<◌}
 use Rattle.std.proofs.Math.Decide.{dec_lt, ℕ_discrete}
@@ -112,9 +112,9 @@ module _ (G : Grid) where
   -- the number of a cell is that of no other cell, nor of the well or the last column
   pub place_is : (i₀ r₀ : ℕ) → i₀ < G.layers → suc r₀ < G.columns → (i j : ℕ) → eqb (place G i j) (place G i₀ (suc r₀)) ≡ (eqb i₀ i && eqb (suc r₀) j)
   place_is i₀ r₀ hi hr i zero =
-      rw (place_well i, place_cell i₀ r₀ hr, ne_eqb 0 (1 + i₀ * (G.columns - 1) + r₀) (omega arith), ne_eqb (suc r₀) 0 (omega arith)) (sym (and_false (eqb i₀ i)))
+      rw (place_well i, place_cell i₀ r₀ hr, ne_eqb 0 (1 + i₀ * (G.columns - 1) + r₀) (omega arith), ne_eqb (suc r₀) 0 (omega arith)) (sym (and-false (eqb i₀ i)))
   place_is i₀ r₀ hi hr i (suc r) = elim (dec_lt (suc r) G.columns) [
-    | no k ↦ rw (place-last i r (omega arith), ne_eqb (place_count G) (place G i₀ (suc r₀)) (omega (arith, place-below i₀ r₀ hi hr)), ne_eqb (suc r₀) (suc r) (omega arith)) (sym (and_false (eqb i₀ i)))
+    | no k ↦ rw (place-last i r (omega arith), ne_eqb (place_count G) (place G i₀ (suc r₀)) (omega (arith, place-below i₀ r₀ hi hr)), ne_eqb (suc r₀) (suc r) (omega arith)) (sym (and-false (eqb i₀ i)))
     | yes k ↦ elim (ℕ_discrete i₀ i) [
       | no e ↦ rw (ne_eqb i₀ i e) (ne_eqb (place G i (suc r)) (place G i₀ (suc r₀)) (λ q. e (sym (same_layer i r i₀ r₀ k hr q))))
       | yes e ↦ rw (e, eq-eqb i i refl) (elim (ℕ_discrete r₀ r) [
