@@ -199,7 +199,7 @@ fn blank() -> [u64; 1001]
 }
 
 // The answer, and what a lent list of n slots holds after it.
-#[derive(Drop)]
+#[derive(Clone, Copy)]
 struct Listed {
     answer: Count,
     list: [u64; 1001],

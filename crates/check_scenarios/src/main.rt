@@ -51,7 +51,7 @@ fn print_entries(text: &[u8]) {
 }
 
 // What the steps of an entry come to: the refusal that ended them, or 0, and the record after those before it.
-#[derive(Drop)]
+#[derive(Clone, Copy)]
 struct Ran {
     refusal: u64,
     record: Record,

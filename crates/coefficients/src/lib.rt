@@ -42,7 +42,7 @@ fn screen_of(site: Site, logarithms: &[u64; COLUMN_PLACES]) -> [u64; LAYER_PLACE
 }
 
 // The coefficients of the cells, each in its slot.
-#[derive(Drop)]
+#[derive(Clone, Copy)]
 struct Cells {
     horizontal: [u64; CELL_PLACES],
     vertical: [u64; CELL_PLACES],
@@ -79,7 +79,7 @@ fn cells_of<'a>(
 }
 
 // What rule 6 says of a scenario's coefficients: the record at the start where they hold, else the all-zero record.
-#[derive(Drop)]
+#[derive(Clone, Copy)]
 pub struct Coefficients {
     pub held: bool,
     pub record: Record,

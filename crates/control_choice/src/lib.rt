@@ -14,7 +14,7 @@ use limits::{CHOICE_RATE_LIMIT, CHOICE_STEP_LIMIT};
 use record::{Outcome, Record};
 
 // What is chosen.
-#[derive(Drop)]
+#[derive(Clone, Copy)]
 pub enum Choice {
     Rate(u64), // the highest rate at which all steps are accepted, ml/s
     NoRate, // each rate meets a refused step
@@ -22,7 +22,7 @@ pub enum Choice {
 }
 
 // The choice, and the record that was handed in.
-#[derive(Drop)]
+#[derive(Clone, Copy)]
 pub struct Chosen {
     pub choice: Choice,
     pub record: Record,

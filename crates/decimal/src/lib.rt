@@ -15,14 +15,14 @@ const ZERO: u8 = b'0';
 const DIGIT_PLACES: usize = 20;
 
 // What a text stands for.
-#[derive(Drop)]
+#[derive(Clone, Copy)]
 pub enum Decimal {
     Number(u64),
     Malformed,
 }
 
 // The digits of a number, the most significant first, and 0 after the last.
-#[derive(Drop)]
+#[derive(Clone, Copy)]
 pub struct Digits {
     pub count: usize,
     pub bytes: [u8; DIGIT_PLACES],

@@ -7,7 +7,7 @@ ghost use Rattle.limits.specs.Limits.{length_limit, total_limit};
 ghost use Rattle.hydraulics.specs.Hydraulics.{float, Exactly, absolute, millionths, inflow_of, wall_velocity, law_of, screen_loss, velocity, pipe_loss};
 
 // The screen law: none, linear c1, or linear and square c1, c2.
-#[derive(Drop)]
+#[derive(Clone, Copy)]
 pub enum ScreenLaw {
     None,
     Linear(f64),

@@ -26,7 +26,7 @@ fn scenario_line(refusal: u64) -> Line
 }
 
 // A piece of the listing, and the record from which the next one goes on; `ended` where there is none.
-#[derive(Drop)]
+#[derive(Clone, Copy)]
 pub struct Piece {
     pub line: Line,
     pub record: Record,

@@ -11,7 +11,7 @@ ghost use Rattle.listing_lines.specs.Appended.{followed as Appended·followed};
 const LINE_BYTES: usize = 147;
 
 // A line of the listing: its bytes, and 0 after the last.
-#[derive(Drop)]
+#[derive(Clone, Copy)]
 pub struct Line {
     pub bytes: [u8; LINE_BYTES],
     pub length: usize,

@@ -13,7 +13,7 @@ use limits::LAYER_PLACES;
 use site::Site;
 
 // Where the pipe leads up from a screened layer: to the next one above, or above the topmost one to the intake.
-#[derive(Drop)]
+#[derive(Clone, Copy)]
 pub enum Upward {
     Intake,
     Layer(usize),

@@ -18,7 +18,7 @@ use record::Record;
 use site::Site;
 
 // What the reading gives for a layer.
-#[derive(Drop)]
+#[derive(Clone, Copy)]
 pub struct Losses {
     pub inflow: f64, // e, into the well, l/s
     pub screen_loss: f64, // m
@@ -26,7 +26,7 @@ pub struct Losses {
 }
 
 // The answer of a head-loss reading.
-#[derive(Drop)]
+#[derive(Clone, Copy)]
 pub enum Loss {
     Given(Losses),
     Refused(u64),

@@ -26,7 +26,7 @@ use words::divide::quotient;
 const NO_LIMIT: u64 = 18446744073709551615;
 
 // What would hold the step back. Place is document 01's term.
-#[derive(Drop)]
+#[derive(Clone, Copy)]
 pub enum Limiting {
     TooLong(Place, u64), // 8: the place with the shortest allowed step, and that step in whole µs, the longest that 8 allows, perhaps 0
     PastIntake(Place), // 10: the well
@@ -36,7 +36,7 @@ pub enum Limiting {
 }
 
 // The slot of a cell, and the longest step that 8 allows there.
-#[derive(Drop)]
+#[derive(Clone, Copy)]
 struct Shortest {
     slot: usize,
     longest: u64,

@@ -11,21 +11,21 @@ use record::Record;
 
 // Place and face are document 01's own terms ('Geometry to coefficients', 'Readings'). A place is the well, or the cell of a layer and a column, which
 // count from 1 as there. An end of a face is named in the same way, and may be in the last column.
-#[derive(Drop)]
+#[derive(Clone, Copy)]
 pub enum Place {
     Well,
     Cell(u64, u64),
 }
 
 // A drawdown in µm, or a storage loss or the water of a face in nl; or the number of the refusal.
-#[derive(Drop)]
+#[derive(Clone, Copy)]
 pub enum Amount {
     Given(i64),
     Refused(u64),
 }
 
 // The water budget of a record, nl, and its mark.
-#[derive(Drop)]
+#[derive(Clone, Copy)]
 pub struct Totals {
     pub pumped: u64,
     pub well_loss: i64,
@@ -34,21 +34,21 @@ pub struct Totals {
     pub mark: i64, // the record's mark, µm
 }
 
-#[derive(Drop)]
+#[derive(Clone, Copy)]
 pub enum Balance {
     Given(Totals),
     Refused(u64),
 }
 
 // How many cells are deeper than a drawdown.
-#[derive(Drop)]
+#[derive(Clone, Copy)]
 pub enum Count {
     Given(u64),
     Refused(u64),
 }
 
 // Whether two records are the same.
-#[derive(Drop)]
+#[derive(Clone, Copy)]
 pub enum Sameness {
     Given(bool),
     Refused(u64),

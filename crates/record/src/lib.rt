@@ -10,7 +10,7 @@ use site::Site;
 // Slot 50×i + j of an array of 1,000 is for layer i + 1 and column j + 1 of document 01: one slot for each cell, also for its face with
 // the next column and its face with the layer below. Slot i of `screen` is for layer i + 1.
 // A slot that no layer, column, face or place uses is 0; so the last column's slots are.
-#[derive(Drop)]
+#[derive(Clone, Copy)]
 pub struct Record {
     pub site: Site, // the numbers of the first four sections
     pub screen: [u64; LAYER_PLACES], // C between the well and column 1, 10^-12 m²/s
@@ -27,20 +27,20 @@ pub struct Record {
 }
 
 // What became of a scenario text or a step.
-#[derive(Drop)]
+#[derive(Clone, Copy)]
 pub enum Outcome {
     Taken,
     Refused(u64),
 }
 
-#[derive(Drop)]
+#[derive(Clone, Copy)]
 pub struct Answer {
     pub outcome: Outcome,
     pub record: Record,
 }
 
 // What became of many steps: taken, or the refusal that ended them; the record after those before it, and how many these were.
-#[derive(Drop)]
+#[derive(Clone, Copy)]
 pub struct Repeated {
     pub outcome: Outcome,
     pub record: Record,

@@ -18,7 +18,7 @@ use sections::{Entry, Layout};
 use site::Site;
 
 // What a call for a pumping entry finds.
-#[derive(Drop)]
+#[derive(Clone, Copy)]
 pub enum Pumping {
     Found(Entry),
     Refused(u64),
@@ -64,7 +64,7 @@ fn made(site: Site, repeats: bool) -> Answer
 }
 
 // A text judged whole: the answer of start, and for an accepted text its numbers and where its sections begin.
-#[derive(Drop)]
+#[derive(Clone, Copy)]
 struct Judged {
     answer: Answer,
     layout: Layout,

@@ -18,7 +18,7 @@ const LAYER_WIDTH: usize = 5;
 const ENTRY_WIDTH: usize = 3;
 
 // How far the sections have been judged: the first refusal, 0 if there is none yet; and, where there is none, the place of the next section's count.
-#[derive(Drop)]
+#[derive(Clone, Copy)]
 struct Reached {
     refusal: u64,
     next: usize,
@@ -26,7 +26,7 @@ struct Reached {
 
 // A scenario's form: 0, or the refusal that it brings about; and, where that is 0, the place of each section's count.
 // The layers' count stands at place 0.
-#[derive(Drop)]
+#[derive(Clone, Copy)]
 pub struct Layout {
     pub refusal: u64,
     pub columns: usize,
@@ -36,7 +36,7 @@ pub struct Layout {
 }
 
 // A pumping entry.
-#[derive(Drop)]
+#[derive(Clone, Copy)]
 pub struct Entry {
     pub rate: u64, // ml/s
     pub length: u64, // of a step, µs

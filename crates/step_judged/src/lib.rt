@@ -16,7 +16,7 @@ use record::Outcome;
 use step_sweep::Terms;
 
 // Where a run has come to, beside the losses of its cells.
-#[derive(Drop)]
+#[derive(Clone, Copy)]
 pub struct Course {
     pub well_loss: i64, // V of the well, nl
     pub well_depth: u64, // D of the well, µm
@@ -27,7 +27,7 @@ pub struct Course {
 }
 
 // What became of one step, and the course after it; a refused step leaves the course as it was.
-#[derive(Drop)]
+#[derive(Clone, Copy)]
 pub struct Advanced {
     pub outcome: Outcome,
     pub course: Course,

@@ -68,7 +68,7 @@ fn row<'a>(
 }
 
 // V of the well and the inflow total after the step.
-#[derive(Drop)]
+#[derive(Clone, Copy)]
 pub struct Swept {
     pub well_loss: i64,
     pub inflow: i64,

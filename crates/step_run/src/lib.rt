@@ -18,7 +18,7 @@ use step_sweep::Terms;
 const PAYS: u64 = 8;
 
 // What became of several steps, where they came to, and how many were taken.
-#[derive(Drop)]
+#[derive(Clone, Copy)]
 pub struct Ran {
     pub outcome: Outcome,
     pub course: Course,

@@ -17,7 +17,7 @@ fn whole(list: &[i64; CELL_PLACES])
 }
 
 // What stays the same in every step of a run.
-#[derive(Drop)]
+#[derive(Clone, Copy)]
 pub struct Terms {
     pub layers: usize,
     pub columns: usize,

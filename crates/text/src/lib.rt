@@ -12,7 +12,7 @@ use limits::{NUMBER_PLACES, TEXT_LIMIT};
 const LINE_FEED: u8 = b'\n';
 
 // The numbers of a text: whether it has the form, how many there are, and the first of them, with 0 after the last.
-#[derive(Drop)]
+#[derive(Clone, Copy)]
 pub struct Numbers {
     pub formed: bool,
     pub count: usize,

@@ -7,7 +7,7 @@ use super::Quotient;
 use super::multiply::product;
 
 // One step of the long division: the digit and what it leaves.
-#[derive(Drop)]
+#[derive(Clone, Copy)]
 struct Division {
     quotient: u64,
     rest: u64,

@@ -6,14 +6,14 @@ pub mod divide;
 pub mod multiply;
 
 // A number of two words, high * 2^64 + low.
-#[derive(Drop)]
+#[derive(Clone, Copy)]
 pub struct Product {
     pub high: u64,
     pub low: u64,
 }
 
 // A whole quotient that fits a word, or that it is over one.
-#[derive(Drop)]
+#[derive(Clone, Copy)]
 pub enum Quotient {
     Word(u64),
     Over,

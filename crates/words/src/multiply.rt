@@ -4,7 +4,7 @@ ghost use Rattle.std.specs.Prelude.{◌≡◌, ◌+◌, ◌-◌, ◌*◌, ◌/�
 use super::Product;
 
 // A product by its columns, top * 2^64 + middle * 2^32 + low: the middle one still holds its carry.
-#[derive(Drop)]
+#[derive(Clone, Copy)]
 struct Columns {
     top: u64,
     middle: u64,
