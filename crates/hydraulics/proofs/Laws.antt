@@ -13,10 +13,10 @@ use Rattle.hydraulics.specs.declared.ScreenLaw.TheVariants.{Square}
 use Rattle.hydraulics.specs.Hydraulics.{float, Exactly, millionths, law_of, twice_gravity, gravity}
 
 -- a size up to 2^53 is a float
-pub in_float : (z : ℤ) → nat_abs z ≤ 2 ^ 53 → T (in_float binary64 z)
+pub in_float_lem : (z : ℤ) → nat_abs z ≤ 2 ^ 53 → T (in_float binary64 z)
 unfolding in_float
-in_float (pos n) h = le→leb n (2 ^ 53) h
-in_float (negsuc n) h = lt→ltb n (2 ^ 53) h
+in_float_lem (pos n) h = le→leb n (2 ^ 53) h
+in_float_lem (negsuc n) h = lt→ltb n (2 ^ 53) h
 
 pub exactly : (z : ℤ) → nat_abs z ≤ 2 ^ 53 → Exactly z (float z)
 unfolding float of_int

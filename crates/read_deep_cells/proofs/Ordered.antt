@@ -26,7 +26,7 @@ use Rattle.read_deep_cells.specs.Order.{times, in_order}
 -- ---- a test of every element
 
 module _ {A : Type 0} (p : A → Bool) where
-  every_mem : {l : List A} {a : A} → every p l ≡ true → Memᴰ a l → p a ≡ true
+  every_mem : {a : A} {l : List A} → every p l ≡ true → Memᴰ a l → p a ≡ true
   unfolding every
   every_mem e (Memᴰ.head {x = x} {xs = l} q) = rw q (and_left (p x) (every p l) e)
   every_mem e (Memᴰ.tail {x = x} {xs = l} m) = every_mem (and_right (p x) (every p l) e) m
@@ -157,11 +157,11 @@ rising_tail a l h k b = rw one_more at (h (suc k) (omega arith))
     one_more : suc k + 1 ≡ suc (k + 1)
     one_more = omega arith
 
-rising_least : (a : ℕ) (l : List ℕ) → Rising 1 (length (a ∷ l)) (a ∷ l) → (b : ℕ) → Memᴰ b l → a ≤ b
-rising_least a l h b (Memᴰ.head {xs = m} e) = rw e (h 0 (omega arith))
-rising_least a l h b (Memᴰ.tail {x = x} {xs = m} q) = le_trans (h 0 (omega arith)) (rising_least x m (rising_tail a (x ∷ m) h) b q)
+rising_least : (b a : ℕ) (l : List ℕ) → Rising 1 (length (a ∷ l)) (a ∷ l) → Memᴰ b l → a ≤ b
+rising_least b a l h (Memᴰ.head {xs = m} e) = rw e (h 0 (omega arith))
+rising_least b a l h (Memᴰ.tail {x = x} {xs = m} q) = le_trans (h 0 (omega arith)) (rising_least b x m (rising_tail a (x ∷ m) h) q)
 
 pub order_rising : (l : List ℕ) → Rising 1 (length l) l → in_order leb l ≡ true
 unfolding in_order
 order_rising [] h = refl
-order_rising (a ∷ l) h = both_hold (mem_every (leb a) l (λ b m. le-leb a b (rising_least a l h b m))) (order_rising l (rising_tail a l h))
+order_rising (a ∷ l) h = both_hold (mem_every (leb a) l (λ b m. le-leb a b (rising_least b a l h m))) (order_rising l (rising_tail a l h))

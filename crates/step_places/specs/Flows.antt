@@ -63,7 +63,7 @@ module _ (r : Record) (v : Valid r) (rate dt : ℕ) where
         (none (ltb (k + 50) (50 * r.site.layers)))
       where
         none : (t : Bool) → ifℤ t (pos 0) ≡ pos 0
-        none t = elim t [ true ↦ refl | false ↦ refl ]
+        none t = elim t as (λ t. ifℤ t (pos 0) ≡ pos 0) [ true ↦ refl | false ↦ refl ]
 
   -- ---- water
 
