@@ -114,7 +114,7 @@ module _ (scenario : Site) where
   runs_all {ts} {s} {r} (c ∷ cs) h =
       subst (λ l. Runs scenario l (after_calls N (after_call N s c) cs) (left_by_all (left r c) cs))
       (append_assoc ts (accepted_from N s (c ∷ [])) (accepted_from N (after_call N s c) cs) ∙ ap (λ l. ts ++ l) (sym (accepted_first s c cs)))
-      (runs_all cs (runs_left h c))
+      (runs_all {ts = ts ++ accepted_from N s (c ∷ [])} {s = after_call N s c} {r = left r c} cs (runs_left h c))
 
 -- ---- outcomes
 -- the reply to a reading holds no outcome of a step
@@ -134,5 +134,7 @@ pub same_outcomes : {scenario : Site} {s : State} {r : Record} (cs : List Call) 
     → outcomes_in (replies_to r cs) ≡ outcomes_from (network_of (scenario_grid scenario)) s cs
 unfolding outcomes_from replies_to reply_to left outcomes_in
 same_outcomes [] h = refl
-same_outcomes (step rate dt ∷ cs) h = ap₂ ◌∷◌ (outcome_is h rate dt) (same_outcomes cs (carries_left h (step rate dt)))
-same_outcomes {r = r} (read q ∷ cs) h = no_outcome r q (replies_to r cs) ∙ same_outcomes cs h
+same_outcomes {scenario = scenario} {s = s} {r = r} (step rate dt ∷ cs) h =
+    ap₂ ◌∷◌ (outcome_is h rate dt)
+    (same_outcomes {scenario = scenario} {s = after_call (network_of (scenario_grid scenario)) s (step rate dt)} {r = left r (step rate dt)} cs (carries_left h (step rate dt)))
+same_outcomes {scenario = scenario} {s = s} {r = r} (read q ∷ cs) h = no_outcome r q (replies_to r cs) ∙ same_outcomes {scenario = scenario} {s = s} {r = r} cs h

@@ -4,14 +4,16 @@
 use mathlib.Core.Path.{◌≡◌, refl, sym, ap, ◌∙◌}
 use mathlib.Core.List.{List, [], ◌∷◌}
 use Rattle.network.specs.Network.{State}
+use Rattle.network.specs.Grid.{network_of}
 use Rattle.site.specs.declared.Site.{Site}
 use Rattle.record.specs.declared.Record.{Record}
 use Rattle.record.specs.Record.{state_of}
+use Rattle.coefficients.specs.Coefficients.{scenario_grid}
 use Rattle.step_rules.specs.Step.{step_of}
 use Rattle.start_laws.specs.Steps.{outcome_is}
 use Rattle.ledger.specs.Calls.{drawdown, budget, loss, flow, deep, same, same_as, head_loss, limiting, Call, step, read, stepped, amount, balance, listed, compared, losses, limited, reply_to, left, replies_to}
-use Rattle.ledger.specs.Ledger.{Accepted}
-use Rattle.ledger.specs.Told.{record_left, Tells, Told, nothing, further}
+use Rattle.ledger.specs.Ledger.{Accepted, after_call}
+use Rattle.ledger.specs.Told.{steps_after, record_left, Tells, Told, nothing, further}
 use Rattle.ledger.proofs.Readings.{told_depth, told_budget, told_loss, told_flow, told_deep, told_same, told_same_as, told_head_loss, told_limiting}
 use Rattle.ledger.proofs.Records.{Runs, mark_is, runs_left}
 
@@ -33,5 +35,7 @@ tells h (read (limiting rate dt)) = ap limited (told_limiting h.carries rate dt)
 
 pub told_all : {scenario : Site} {steps : List Accepted} {s : State} {r : Record} (cs : List Call) → Runs scenario steps s r → Told scenario steps s cs (replies_to r cs)
 unfolding replies_to
-told_all [] h = nothing
-told_all (c ∷ cs) h = further (tells h c) (told_all cs (runs_left _ h c))
+told_all {scenario = scenario} {steps = steps} {s = s} {r = r} [] h = nothing
+told_all {scenario = scenario} {steps = steps} {s = s} {r = r} (c ∷ cs) h =
+    further (tells h c)
+    (told_all {steps = steps_after scenario steps s c} {s = after_call (network_of (scenario_grid scenario)) s c} {r = left r c} cs (runs_left _ h c))

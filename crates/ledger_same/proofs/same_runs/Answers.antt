@@ -4,16 +4,12 @@ use Rattle.ledger.specs.Calls.{replies_to}
 use Rattle.readings.specs.SameLaws.{same_answer}
 use Rattle.ledger_same.specs.SameCalls.{records_after}
 use Rattle.ledger_same.proofs.Same.{same_calls, same_itself, after_each}
-use Rattle.ledger_same.proofs.same_runs.Statement.{statement}
-use Rattle.ledger_same.proofs.same_runs.Tie as tie
+use Rattle.ledger_same.proofs.same_runs.Goals as goal
 
-returns : tie.Need-returns
+pub returns : goal.returns
 returns c = (
   λ one other yes calls others same.
       (ap₂ replies_to (same_answer one other yes).2 (same_calls same), ap₂ records_after (same_answer one other yes).2 (same_calls same)),
   same_itself,
   after_each,
 )
-
-pub same-runs-spec : {M : Type 1} → statement M
-same-runs-spec = tie.close (tie.spec returns)

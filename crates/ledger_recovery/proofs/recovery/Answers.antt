@@ -12,8 +12,7 @@ use Rattle.readings.specs.Readings.{totals_in}
 use Rattle.ledger.specs.Calls.{Reading, Call, step, read, left_by_all}
 use Rattle.ledger_recovery.specs.Recovery.{is_at_rest, Reads, lost, Recovers}
 use Rattle.ledger_recovery.proofs.Resting.{reads, lost_is, no_intake, turned, rest_each, rest_all}
-use Rattle.ledger_recovery.proofs.recovery.Statement.{statement}
-use Rattle.ledger_recovery.proofs.recovery.Tie as tie
+use Rattle.ledger_recovery.proofs.recovery.Goals as goal
 
 module _ (r : Record) (ok : valid r ≡ true) (calls : List Call) (rest : every is_at_rest calls ≡ true) where
   end : (valid (left_by_all r calls) ≡ true) × ((state_of (left_by_all r calls)).pumped ≡ (state_of r).pumped) × ((left_by_all r calls).mark ≡ r.mark)
@@ -45,16 +44,13 @@ module _ (r : Record) (ok : valid r ≡ true) (calls : List Call) (rest : every 
   }
 
 -- what may be in the list
-step-rests : (dt : ℕ) → is_at_rest (step 0 dt) ≡ true
+step_rests : (dt : ℕ) → is_at_rest (step 0 dt) ≡ true
 unfolding is_at_rest
-step-rests dt = refl
+step_rests dt = refl
 
-reading-rests : (q : Reading) → is_at_rest (read q) ≡ true
+reading_rests : (q : Reading) → is_at_rest (read q) ≡ true
 unfolding is_at_rest
-reading-rests q = refl
+reading_rests q = refl
 
-returns : tie.Need-returns
-returns c = (recovers, step-rests, reading-rests)
-
-pub recovery-spec : {M : Type 1} → statement M
-recovery-spec = tie.close (tie.spec returns)
+pub returns : goal.returns
+returns c = (recovers, step_rests, reading_rests)

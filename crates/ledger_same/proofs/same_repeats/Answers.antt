@@ -2,11 +2,7 @@
 use mathlib.Core.Path.{ap}
 use Rattle.step.specs.Repeat.{repeat_of}
 use Rattle.readings.specs.SameLaws.{same_answer}
-use Rattle.ledger_same.proofs.same_repeats.Statement.{statement}
-use Rattle.ledger_same.proofs.same_repeats.Tie as tie
+use Rattle.ledger_same.proofs.same_repeats.Goals as goal
 
-returns : tie.Need-returns
+pub returns : goal.returns
 returns c one other same rate dt steps = ap (λ r. repeat_of r rate dt steps) (same_answer one other same).2
-
-pub same-repeats-spec : {M : Type 1} → statement M
-same-repeats-spec = tie.close (tie.spec returns)

@@ -20,8 +20,7 @@ use Rattle.readings.specs.SameLaws.{same_answer}
 use Rattle.read_same.specs.Same.{Compares}
 use Rattle.read_same.specs.Laws.{compared}
 use Rattle.ledger_same.specs.SameDrawdowns.{SameDrawdowns, same_depths, same_drawdowns_of}
-use Rattle.ledger_same.proofs.same_drawdowns.Statement.{statement}
-use Rattle.ledger_same.proofs.same_drawdowns.Tie as tie
+use Rattle.ledger_same.proofs.same_drawdowns.Goals as goal
 
 either : (a b : Bool) → a ≡ b → (a || b) ≡ true → b ≡ true
 either true b e h = sym e
@@ -36,9 +35,9 @@ alike r q = eqb (grid_of r).layers (grid_of q).layers && eqb (grid_of r).columns
 
 module _ (r q : Record) (ok : valid r ≡ true) (fine : valid q ≡ true) where
   -- the test holds: so counts and readings are equal
-  from-test : alike r q ≡ true → SameDrawdowns r q
+  from_test : alike r q ≡ true → SameDrawdowns r q
   unfolding same_depths grid_of network_of
-  from-test e =
+  from_test e =
       let parts = three_hold (eqb (grid_of r).layers (grid_of q).layers) (eqb (grid_of r).columns (grid_of q).columns) (same_depths r q) e in
       let layers = eqb-true _ _ parts.0 in
       let columns = eqb-true _ _ parts.1 in
@@ -55,9 +54,9 @@ module _ (r q : Record) (ok : valid r ≡ true) (fine : valid q ≡ true) where
       }
 
   -- they are equal: so the test holds
-  to-test : SameDrawdowns r q → alike r q ≡ true
+  to_test : SameDrawdowns r q → alike r q ≡ true
   unfolding same_depths grid_of network_of
-  to-test s =
+  to_test s =
       both_hold (both_hold (eq-eqb _ _ s.layers) (eq-eqb _ _ s.columns)) (all_from _ (place_count (grid_of r)) depth)
     where
       depth : (n : ℕ) → n < place_count (grid_of r) → equalℤ (D r n) (D q n) ≡ true
@@ -70,23 +69,20 @@ module _ (r q : Record) (ok : valid r ≡ true) (fine : valid q ≡ true) where
 
 rule : (r q : Record) → Compares r q (SameDrawdowns r q) (same_drawdowns_of r q)
 unfolding same_drawdowns_of
-rule r q = compared r q (SameDrawdowns r q) (alike r q) (from-test r q) (λ ok fine e s. false≢true (sym e ∙ to-test r q ok fine s))
+rule r q = compared r q (SameDrawdowns r q) (alike r q) (from_test r q) (λ ok fine e s. false≢true (sym e ∙ to_test r q ok fine s))
 
 -- a record and itself
-drawdowns-itself : (r : Record) → SameDrawdowns r r
-drawdowns-itself r = record { layers = refl; columns = refl; depths = λ p e. refl }
+drawdowns_itself : (r : Record) → SameDrawdowns r r
+drawdowns_itself r = record { layers = refl; columns = refl; depths = λ p e. refl }
 
-yes-itself : (r : Record) → valid r ≡ true → same_drawdowns_of r r ≡ sameness_of 0 true
+yes_itself : (r : Record) → valid r ≡ true → same_drawdowns_of r r ≡ sameness_of 0 true
 unfolding same_drawdowns_of first
-yes-itself r ok = rw ok (ap (sameness_of 0) (to-test r r ok ok (drawdowns-itself r)))
+yes_itself r ok = rw ok (ap (sameness_of 0) (to_test r r ok ok (drawdowns_itself r)))
 
-returns : tie.Need-returns
+pub returns : goal.returns
 returns c = (
   λ one other same.
       let e = same_answer one other same in
-      subst (λ q. SameDrawdowns one q × (same_drawdowns_of one q ≡ sameness_of 0 true)) e.2 (drawdowns-itself one, yes-itself one e.0),
+      subst (λ q. SameDrawdowns one q × (same_drawdowns_of one q ≡ sameness_of 0 true)) e.2 (drawdowns_itself one, yes_itself one e.0),
   rule,
 )
-
-pub same-drawdowns-spec : {M : Type 1} → statement M
-same-drawdowns-spec = tie.close (tie.spec returns)

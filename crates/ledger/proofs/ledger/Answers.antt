@@ -22,8 +22,7 @@ use Rattle.ledger.proofs.AcceptedSteps.{none, gained, conserved_over}
 use Rattle.ledger.proofs.Readings.{same_budget, same_loss, same_depth, set-inside, set-loss}
 use Rattle.ledger.proofs.Records.{Runs, mark_is, start_whole, runs_all, same_outcomes}
 use Rattle.ledger.proofs.Told.{told_all}
-use Rattle.ledger.proofs.ledger.Statement.{statement}
-use Rattle.ledger.proofs.ledger.Tie as tie
+use Rattle.ledger.proofs.ledger.Goals as goal
 
 module _ (text : List ℕ) (r : Record) (h : Runs (scenario_of text) [] (at_rest (network_from text)) r) (calls : List Call) where
   end : Runs (scenario_of text) (accepted_of text calls) (ledger_of text calls) (left_by_all r calls)
@@ -37,10 +36,10 @@ module _ (text : List ℕ) (r : Record) (h : Runs (scenario_of text) [] (at_rest
   same_network = network_is end.carries
 
   -- the storage loss of a set
-  set-balance : (bytes : List ℕ) → loss_in (network_from text) (set_of bytes) (ledger_of text calls).losses
+  set_balance : (bytes : List ℕ) → loss_in (network_from text) (set_of bytes) (ledger_of text calls).losses
       ≡ ifℤ (in_set (network_from text) bytes 0) (pos (pumped_by (accepted_of text calls))) -ℤ net_into (network_from text) (in_set (network_from text) bytes) (accepted_of text calls)
   unfolding gained
-  set-balance bytes =
+  set_balance bytes =
       set-loss (network_from text) bytes (ledger_of text calls).losses
       ∙ conserved_over (network_from text) (in_set (network_from text) bytes) (set-inside (network_from text) bytes) end.steps
       ∙ rw (loss_in-at_rest (network_from text) (in_set (network_from text) bytes)) (+ℤ_idl _)
@@ -53,7 +52,7 @@ module _ (text : List ℕ) (r : Record) (h : Runs (scenario_of text) [] (at_rest
     accepted = end.carries.valid;
     mark = mark_is end;
     budget = same_budget end.carries (mark_is end);
-    loss = λ bytes e. same_loss end.carries bytes e ∙ ap (amount_of 0) (set-balance bytes);
+    loss = λ bytes e. same_loss end.carries bytes e ∙ ap (amount_of 0) (set_balance bytes);
     depth = same_depth end.carries;
     natural = λ p e. rw (same_network, end.carries.state) at (depth_natural _ (valid_proper _ known) (state_of (left_by_all r calls)) known.kept (number_of (grid_from text) p));
     within = λ p e. rw (same_network, end.carries.state) at (known.marked.depths (number_of (grid_from text) p) (rw same_network (named-place (grid_from text) p e)));
@@ -62,8 +61,5 @@ module _ (text : List ℕ) (r : Record) (h : Runs (scenario_of text) [] (at_rest
 at_start : (text : List ℕ) → (start_of text).outcome ≡ outcome_of 0 → Runs (scenario_of text) [] (at_rest (network_from text)) (start_of text).«record»
 at_start text taken = record { carries = begun text taken; steps = none; whole = begun_record text taken ∙ start_whole (scenario_of text) }
 
-returns : tie.Need-returns
+pub returns : goal.returns
 returns c text taken calls = holds text (start_of text).«record» (at_start text taken) calls
-
-pub ledger-spec : {M : Type 1} → statement M
-ledger-spec = tie.close (tie.spec returns)
