@@ -7,7 +7,7 @@
 use mathlib.Core.Path.{◌≡◌, refl, sym, ap, ◌∙◌}
 use mathlib.Core.Bool.{Bool, true, false, ◌&&◌, and_assoc}
 use mathlib.Core.List.{List}
-use Prim.Native.Nat.{ℕ, suc, ◌+◌, ◌-◌, ◌<◌, ◌≤◌}
+use Prim.Native.Nat.{ℕ, suc, ◌<◌, ◌≤◌}
 use native.Mathlib.Decide.{dec_lt}
 use native.Mathlib.Omega.{arith}
 use borrow.Author.Tests.{le-leb, lt-leb}
@@ -21,7 +21,6 @@ use Rattle.record.specs.declared.Repeated.{Repeated}
 use Rattle.validity.specs.Validity.{valid}
 use Rattle.control_choice.specs.declared.Choice.{Choice}
 use Rattle.control_choice.specs.Choice.{is_taken, rising, list_holds, choice_refusal, passing, choice_of}
-use Rattle.control_choice.specs.Chooses.{Stands}
 use Rattle.control_choice.specs.laws.Highest.{Fits, fits_choice, one_fits, later_above}
 
 -- ---- a trial

@@ -1,6 +1,6 @@
 -- The figures of a line, from the readings: laws only, nothing to believe.
 --     figures_read     the figures that the readings of a record give are within their limits
-use Rattle.std.specs.Prelude.{◌≡◌, Bool, not, ℤ, pos, nat_abs, ◌≤ℤ◌}
+use Rattle.std.specs.Prelude.{◌≡◌, Bool, not, ℤ, pos, nat_abs}
 use Rattle.std.proofs.Math.Path.{sym, ap}
 use Rattle.std.proofs.Common.{◌∙◌, arith}
 use Prim.Native.Nat.{ℕ, zero, suc, ◌+◌, ◌≤◌, zero-le}

@@ -13,7 +13,6 @@ use native.Mathlib.Omega.{arith}
 use borrow.Author.Tests.{ltb-true, ltb-false, lt-ltb}
 use Rattle.std.proofs.Math.Dec.{ltb}
 use Rattle.std.proofs.Math.ListN.{get_or}
-use Rattle.laws.specs.Lists.{all_below}
 use Rattle.laws.specs.All.{all_at}
 use Rattle.laws.specs.Rows.{all_from}
 use Rattle.control_choice.specs.declared.Choice.{Choice}

@@ -8,7 +8,7 @@ use Rattle.std.specs.Prelude.{◌≡◌, Bool, ◌&&◌}
 use Rattle.std.proofs.Math.Path.{refl}
 use Rattle.std.proofs.Common.{sym, ap, ◌∙◌, true≢false, le_of_suc-le-suc, not-suc-le-zero, arith}
 use Rattle.std.proofs.Math.Bool.{true, false}
-use Prim.Native.Nat.{ℕ, zero, suc, ◌<◌}
+use Prim.Native.Nat.{ℕ, zero, suc}
 use Rattle.laws.specs.All.{and_left, and_right}
 use Rattle.laws.specs.Rows.{both_hold}
 use Rattle.record.specs.declared.Record.{Record}
@@ -22,7 +22,7 @@ use Rattle.step_rules.specs.Laws.{step_outcome}
 use Rattle.step.specs.Repeat.{repeat_of}
 use Rattle.step.specs.Laws.{repeat_14, repeat_none}
 use Rattle.control_choice.specs.Choice.{is_taken, all_accepted}
-use Rattle.control_choice.specs.Chooses.{record_after, outcome_after, AllAccepted, MeetsRefused, AsRepeat}
+use Rattle.control_choice.specs.Chooses.{record_after, AllAccepted, MeetsRefused, AsRepeat}
 
 -- ---- an outcome
 

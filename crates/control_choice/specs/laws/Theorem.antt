@@ -1,20 +1,20 @@
 -- The choice as the theorem says it: laws only, nothing to believe.
 --     chooses             what holds of the choice, whatever is handed in
-use Rattle.std.specs.Prelude.{◌≡◌, Bool, not, List, [], ◌∷◌, ◌⊎◌, ℕ, zero, suc, ◌<◌, ◌≤◌, leb, length}
+use Rattle.std.specs.Prelude.{◌≡◌, Bool, not, List, [], ◌∷◌, ℕ, leb, length}
 use Rattle.std.proofs.Math.Path.{refl, ap}
-use Rattle.std.proofs.Common.{sym, ◌∙◌, arith}
+use Rattle.std.proofs.Common.{sym, ◌∙◌}
 use Rattle.std.proofs.Math.Bool.{true, false, true≢false}
 use Rattle.std.proofs.Math.Logic.{inl, inr, ⊎_elim}
 use borrow.Author.Tests.{leb-true, le-leb}
 use Rattle.limits.specs.Limits.{between, choice_rate_limit, choice_step_limit}
 use Rattle.laws.specs.Lists.{first}
 use Rattle.laws.specs.All.{and_left, and_right}
-use Rattle.laws.specs.Rows.{three_hold, both_hold}
+use Rattle.laws.specs.Rows.{three_hold}
 use Rattle.record.specs.declared.Record.{Record}
 use Rattle.validity.specs.Validity.{valid}
 use Rattle.control_choice.specs.declared.Choice.{Choice}
 use Rattle.control_choice.specs.Choice.{all_accepted, rising, list_holds, choice_refusal, passing, choice_of, chosen_of}
-use Rattle.control_choice.specs.Chooses.{Stands, Holds, AllAccepted, MeetsRefused, Says, Chooses}
+use Rattle.control_choice.specs.Chooses.{Holds, Says, Chooses}
 use Rattle.control_choice.specs.laws.Row.{all_accepted_lem, accepted_all, meets_refused, refused_meets, as_repeat}
 use Rattle.control_choice.specs.laws.Highest.{Fits, fits_choice, one_fits, later_above, above_rising}
 
