@@ -6,12 +6,10 @@ use Rattle.limits.specs.Limits.{midsection_factor}
 use Rattle.words.specs.Fitted.{fitted}
 use Rattle.words.specs.Laws.{fitted-word}
 use Rattle.words.specs.declared.Quotient.TheVariants.{Word}
-use borrow.Author.Tests.{eq-eqb, ne_eqb, lt-ltb, le-ltb}
+use borrow.Author.Tests.{eq-eqb, lt-ltb, le-ltb}
 use Prim.Native.Nat.{ℕ, zero, suc, ◌+◌, ◌*◌, ◌-◌, ◌/◌, ◌^◌, ◌<◌, ◌≤◌}
-use mir.Syntax.{w64}
-use mir.Val.{Fits}
 use native.Mathlib.Decide.{dec_lt}
-use native.Mathlib.Nat.{le_trans, lt_of_le_of_lt, add-le-add, mul_assoc, mul-pos, div-le_self, div-le_of_le-mul, div-mul-le_self, div-eq_of_eq-mul_left, mul-le-mul, div-one, le-div_iff_mul-le}
+use native.Mathlib.Nat.{le_trans, add-le-add, div-le_of_le-mul, div-mul-le_self, div-eq_of_eq-mul_left, mul-le-mul, div-one, le-div_iff_mul-le}
 use native.Mathlib.Numerals.{add-one}
 use native.Mathlib.Omega.{arith}
 use Rattle.geometry.specs.Geometry.{terms, ratio, series_logarithm, logarithm_of_three, logarithm}
@@ -20,10 +18,6 @@ use Rattle.geometry.specs.Geometry.{terms, ratio, series_logarithm, logarithm_of
 pub one_more : (w k t : ℕ) → k < 16 → terms (16 - k) w k t ≡ t / (2 * k + 1) + terms (16 - (k + 1)) w (k + 1) (t * w / 2 ^ 30)
 unfolding terms
 one_more w k t h = let e : 16 - k ≡ suc (16 - (k + 1)) = omega arith in rw (e, add-one k)
-
--- a sum so far and the next term fit a word
-pub term_fits : (s t d : ℕ) → s ≤ 2 ^ 33 → t ≤ 2 ^ 29 → Fits w64 (s + t / d)
-term_fits s t d hs ht = record { fits = omega (arith, div-le_self t d) }
 
 -- after the last no term is left
 pub none_left : (w k t : ℕ) → k ≡ 16 → terms (16 - k) w k t ≡ 0
@@ -103,15 +97,9 @@ logarithm_most p q h r = elim (dec_lt (3 * q) p) [
   | no u ↦ omega (arith, logarithm_near p q (omega arith), series_most p q h (omega arith))
 ]
 
--- a product of two bounded factors is bounded, and fits a word
+-- a product of two bounded factors is bounded
 pub product_at_most : (m n : ℕ) {a b : ℕ} → a ≤ m → b ≤ n → a * b ≤ m * n
 product_at_most m n ha hb = mul-le-mul ha hb
-
-pub sum_fits : (m x y : ℕ) → x ≤ m → y ≤ m → m < 2 ^ 63 → Fits w64 (x + y)
-sum_fits m x y hx hy h = record { fits = omega arith }
-
-pub product_fits : (m n : ℕ) {a b : ℕ} → a ≤ m → b ≤ n → m * n < 2 ^ 64 → Fits w64 (a * b)
-product_fits m n ha hb h = record { fits = lt_of_le_of_lt (mul-le-mul ha hb) h }
 
 -- ---- the vertical C: of two layers of which one lets no water through, and of others
 pub closed_above : (kv₁ kv₂ n : ℕ) → kv₁ ≡ 0 → Word 0 ≡ fitted (cond (eqb kv₁ 0 || eqb kv₂ 0) 0 n)
@@ -119,14 +107,6 @@ closed_above kv₁ kv₂ n e = rw (eq-eqb kv₁ 0 e) (sym (fitted-word (omega ar
 
 pub closed_below : (kv₁ kv₂ n : ℕ) → kv₂ ≡ 0 → Word 0 ≡ fitted (cond (eqb kv₁ 0 || eqb kv₂ 0) 0 n)
 closed_below kv₁ kv₂ n e = rw (eq-eqb kv₂ 0 e, or-true (eqb kv₁ 0)) (sym (fitted-word (omega arith)))
-
--- both let water through: from the product that the code takes
-pub both_open : (a kv₁ kv₂ d : ℕ) → (kv₁ ≡ 0 → ⊥) → (kv₂ ≡ 0 → ⊥) → cond (eqb kv₁ 0 || eqb kv₂ 0) 0 (a * kv₁ * kv₂ / d) ≡ a * (kv₁ * kv₂) / d
-both_open a kv₁ kv₂ d p q = rw (ne_eqb kv₁ 0 p, ne_eqb kv₂ 0 q, mul_assoc a kv₁ kv₂)
-
--- a product in their divisor
-pub product_above : (x y : ℕ) → 0 < x → 0 < y → 0 < x * y
-product_above x y hx hy = mul-pos {m = x} {n = y} hx hy
 
 -- ---- areas
 pub square_at_most : (b : ℕ) {a : ℕ} → a ≤ b → a * a ≤ b * b

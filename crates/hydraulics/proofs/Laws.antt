@@ -3,21 +3,15 @@ use mathlib.Core.Path.{◌≡◌, refl}
 use mathlib.Core.Bool.{true, false}
 use Prim.Native.Nat.{ℕ, zero, suc, ◌/◌, ◌≤◌, ◌^◌}
 use native.Mathlib.Omega.{arith}
-use lib.Dec.{T, le→leb, lt→ltb}
 use lib.IntN.{ℤ, pos, negsuc, nat_abs}
-use lib.Ieee.{binary64, of_bits, of_int, in_float, div}
+use lib.Ieee.{binary64, of_bits, of_int, div}
 use lib.Signed.{quot_z}
 use Rattle.laws.specs.Signed.{abs_neg}
 use lib.Ieee.Back.{round_whole}
 use Rattle.hydraulics.specs.declared.ScreenLaw.TheVariants.{Square}
 use Rattle.hydraulics.specs.Hydraulics.{float, Exactly, millionths, law_of, twice_gravity, gravity}
 
--- a size up to 2^53 is a float
-pub in_float_lem : (z : ℤ) → nat_abs z ≤ 2 ^ 53 → T (in_float binary64 z)
-unfolding in_float
-in_float_lem (pos n) h = le→leb n (2 ^ 53) h
-in_float_lem (negsuc n) h = lt→ltb n (2 ^ 53) h
-
+-- a size up to 2^53 is a float exactly
 pub exactly : (z : ℤ) → nat_abs z ≤ 2 ^ 53 → Exactly z (float z)
 unfolding float of_int
 exactly (pos n) h = round_whole binary64 false n h

@@ -15,7 +15,7 @@ use lib.Dec.{eqb, ltb}
 use lib.IntN.{ℤ, pos}
 use lib.ListN.{length, get_or, get_or-replicate}
 use lib.Signed.{≤ℤ_refl}
-use Rattle.laws.specs.Integer.{plus, minus, natural}
+use Rattle.laws.specs.Integer.{plus, minus}
 use Rattle.laws.specs.Refusal.First.{none, hit, skip}
 use Rattle.laws.specs.Lists.{ifℕ, ifℤ, sumℤ, range}
 use Rattle.laws.specs.Sums.{ifℕ_le, ifℤ_pos, sumℕ_le, sumℕ_zero, sumℕ-map, sumℤ_ext, range-below, Room}

@@ -2,8 +2,8 @@
 --     count_read         the count of the section whose place is known; section_read: one of its numbers
 --     field_read         the number at place k of one of its records
 --     copied_field, copied_section    those, copied one after the other to an array of zeros
---     places             how far from the front the sections' counts can be; counts_read: what stands there
---     entry_read, repeats_read    the numbers of the pumping entries; site-read: those of the first four sections, all together
+--     places             how far from the front the sections' counts can be; counts_read: what stands there; known: both, and how large they can be
+--     entry_near, entry_read, repeats_read    the places and numbers of the pumping entries; site-read: those of the first four sections, all together
 use mathlib.Core.Path.{◌≡◌, refl, sym, ap, ◌∙◌}
 use mathlib.Core.Bool.{Bool}
 use mathlib.Core.List.{List, [], ◌∷◌}
@@ -20,7 +20,7 @@ use Rattle.site.specs.declared.Site.{Site}
 use Rattle.sections.specs.declared.Layout.{Layout}
 use Rattle.sections.specs.Sections.{layer_width, entry_width, section_count, section_of, rest_of, field, from_columns, from_well, from_loss, from_pumping, site_of, entries_of}
 use Rattle.sections.specs.Reading.{Reads, field_copy, section_copy, layer_copy}
-use Rattle.sections.specs.Laws.{SectionFits, Form, form_passed, length_rest, length_section, length-field, get_or-field, counts_most}
+use Rattle.sections.specs.Laws.{SectionFits, Form, form_passed, length_rest, length_section, length-field, get_or-field, Most, counts_most}
 
 module _ (ns : List ℕ) (at : ℕ) {values rest : List ℕ} (held : values ≡ padded number_places 0 ns) (e : rest ≡ drop at ns) where
   number_read : (k : ℕ) → at + k < number_places → get_or values (at + k) 0 ≡ get_or rest k 0
@@ -125,6 +125,15 @@ module _ {values ns : List ℕ} {layout : Layout} (r : Reads values layout ns) w
       let p = places in
       let m = counts_most form in
       field_read ns layout.pumping r.held r.pumping form.pumping (omega arith) 2 i (omega arith) h (omega arith)
+
+  -- an entry is near enough to the front
+  pub entry_near : (i : ℕ) → i < entries_of ns → layout.pumping + 3 + 3 * i < number_places
+  unfolding entries_of
+  entry_near i h = omega (arith, places, counts_most form, h)
+
+  -- the places and the counts, for the bounds
+  pub known : Places layout × Counts values layout ns × Most ns
+  known = (places, counts_read, counts_most form)
 
   layer_field : (k : ℕ) → k < 5 → layer_copy values k ≡ padded 20 0 (field layer_width k (section_of layer_width ns))
   layer_field k h =

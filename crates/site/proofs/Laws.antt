@@ -1,22 +1,21 @@
 -- Laws that this crate's proofs share.
 use mathlib.Core.Path.{◌≡◌, refl, sym, ◌∙◌}
-use mathlib.Core.Bool.{Bool, true, false, cond, ◌&&◌, not}
+use mathlib.Core.Bool.{Bool, true, false, cond, ◌&&◌}
 use mathlib.Core.List.{List}
 use Prim.Native.Nat.{ℕ, zero, suc, ◌+◌, ◌-◌, ◌*◌, ◌≤◌, ◌<◌}
 use native.Mathlib.Numerals.{add-one}
 use native.Mathlib.Omega.{arith}
-use borrow.Author.Tests.{not-true, not-false}
 use lib.Dec.{leb, ltb}
 use lib.ListN.{get_or}
 use Rattle.limits.specs.Limits.{yield_limits, specific_storage_limits, midsection_factor}
 use Rattle.site.specs.Site.{is_screened, midsection, layer_top, topmost_screened, storage_holds, column_rises}
 
 -- what a test that a loop makes says of the test that its callee's contract names
-pub fails : {t p : Bool} → t ≡ p → not t ≡ true → p ≡ false
-fails {t} e h = sym e ∙ not-true t h
+pub fails : {t p : Bool} → t ≡ p → t ≡ false → p ≡ false
+fails e h = sym e ∙ h
 
-pub holds : {t p : Bool} → t ≡ p → not t ≡ false → p ≡ true
-holds {t} e h = sym e ∙ not-false t h
+pub holds : {t p : Bool} → t ≡ p → t ≡ true → p ≡ true
+holds e h = sym e ∙ h
 
 -- storage of the first layer, and of one below it
 pub storage_first : (i x : ℕ) → i ≡ 0 → storage_holds i x ≡ yield_limits x

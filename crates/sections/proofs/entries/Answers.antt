@@ -1,0 +1,13 @@
+-- `sections::entries` meets its contract.
+use Rattle.std.proofs.Common.{arith}
+use Rattle.sections.proofs.Places.{places, entries_read}
+use Rattle.sections.proofs.entries.Goals as goal
+
+pub offset_bounds-values-at : goal.offset_bounds-values-at
+offset_bounds-values-at c = omega (arith, places c.requires.1)
+
+pub bounds-values-at : goal.bounds-values-at
+bounds-values-at c = omega (arith, places c.requires.1)
+
+pub returns : goal.returns
+returns c ns r = entries_read r
