@@ -26,5 +26,5 @@ returns c =
     let i = c.args.i in
     let a = get_or c.args.areas.now c.args.j 0 in
     let divided : c.vertical.result ≡ fitted (vertical a (get_or s.thickness i 0) (get_or s.kv i 0) (get_or s.thickness (i + 1) 0) (get_or s.kv (i + 1) 0)) = c.vertical.ensures in
-    let lower : i ≡ 0 → ⊥ = λ e. c.if-below-eq1.false (omega arith) in
+    let lower : i ≡ 0 → ⊥ = λ e. omega arith in
     used _ (sym (below_cell _ _ _) ∙ cell c.args.site _ _ (omega arith) (omega arith)) divided (down_is _ _ _ lower (c.requires.1.at c.args.j (omega arith))) c.word_of-2.ensures

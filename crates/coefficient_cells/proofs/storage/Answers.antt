@@ -17,4 +17,4 @@ returns-then-i-eq0 c =
 
 pub returns : goal.returns
 returns c =
-    used _ (cell _ _ _ (omega arith) (omega arith)) c.confined_storage.ensures (storage_below _ _ _ c.if-i-eq0.false (c.requires.1.at c.args.j (omega arith))) c.word_of-2.ensures
+    used _ (cell _ _ _ (omega arith) (omega arith)) c.confined_storage.ensures (storage_below _ _ _ (λ e. omega arith) (c.requires.1.at c.args.j (omega arith))) c.word_of-2.ensures

@@ -1,13 +1,12 @@
 -- What `same` answers of any two records.
-use mathlib.Core.Path.{◌≡◌, sym, subst, ◌∙◌}
-use mathlib.Core.Bool.{true, false, false≢true}
+use Rattle.std.proofs.Common.{◌≡◌, true, false, sym, subst, ◌∙◌}
+use Rattle.std.proofs.lemmas.Bool.{false≢true}
 use Rattle.record.specs.declared.Record.{Record}
 use Rattle.readings.specs.Readings.{same_record, same_of}
 use Rattle.readings.specs.SameLaws.{same_record_lem, same_itself}
 use Rattle.read_same.specs.Same.{Compares}
 use Rattle.read_same.specs.Laws.{compared}
-use Rattle.read_same.proofs.same_means_equal.Statement.{statement}
-use Rattle.read_same.proofs.same_means_equal.Tie as tie
+use Rattle.read_same.proofs.same_means_equal.Goals as goal
 
 module _ (r q : Record) where
   -- records of which the test fails are not equal
@@ -18,8 +17,5 @@ module _ (r q : Record) where
   unfolding same_of
   compares = compared r q (r ≡ q) (same_record r q) (λ ok fine. same_record_lem r q) (λ ok fine. not_equal)
 
-returns : tie.Need-returns
+pub returns : goal.returns
 returns c one other = compares one other
-
-pub same-means-equal-spec : {M : Type 1} → statement M
-same-means-equal-spec = tie.close (tie.spec returns)
