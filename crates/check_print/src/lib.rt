@@ -1,22 +1,23 @@
 // What the programs that are held to the reference model read and print: the file that an argument names, words, and numbers with a space before
-// them. Its functions promise nothing but to end: what they print is held to the model's.
+// them. Of what is printed its functions promise nothing: it is held to the model's.
 #![tactic(auto)]
 
-ghost use Rattle.io.specs.Counts.{IsPrefixLen};
+ghost use Rattle.std.specs.Io.{ReadsAtMost};
 
-use libc::STDOUT_FILENO;
+use std::fs;
+use std::io::{self, ErrorKind, Read, Write};
+use std::rt::Files;
 
-pub fn print(word: &[u8]) {
-    io::write_all(STDOUT_FILENO, word);
+pub fn print(out: &mut impl Write, word: &[u8]) -> io::Result<()> {
+    out.write_all(word)
 }
 
-pub fn print_line_end() {
-    print(b"\n");
+pub fn print_line_end(out: &mut impl Write) -> io::Result<()> {
+    print(out, b"\n")
 }
 
-pub fn print_number(n: u64) {
-    print(b" ");
-    io::print_decimal(STDOUT_FILENO, n);
+pub fn print_number(out: &mut impl Write, n: u64) -> io::Result<()> {
+    write!(out, " {n}")
 }
 
 // A number that is not negative; 0 for one that is.
@@ -35,57 +36,69 @@ pub fn size(v: i64) -> u64 {
     unsigned(v)
 }
 
-pub fn print_integer(v: i64) {
-    if v < 0 {
-        print(b" -");
-    } else {
-        print(b" ");
-    }
-    io::print_decimal(STDOUT_FILENO, size(v));
+pub fn print_integer(out: &mut impl Write, v: i64) -> io::Result<()> {
+    let sign = if v < 0 { "-" } else { "" };
+    let digits = size(v);
+    write!(out, " {sign}{digits}")
 }
 
-pub fn print_refusal(number: u64) {
-    print(b" refused");
-    print_number(number);
+pub fn print_refusal(out: &mut impl Write, number: u64) -> io::Result<()> {
+    print(out, b" refused")?;
+    print_number(out, number)
 }
 
 // The line above what is printed of a state: the entry after which it is, from 0 for the start, and what became of its steps, 0 for taken.
-pub fn print_heading(number: u64, refusal: u64) {
-    print(b"after");
-    print_number(number);
+pub fn print_heading(out: &mut impl Write, number: u64, refusal: u64) -> io::Result<()> {
+    print(out, b"after")?;
+    print_number(out, number)?;
     if refusal == 0 {
-        print(b" taken");
+        print(out, b" taken")?;
     } else {
-        print_refusal(refusal);
+        print_refusal(out, refusal)?;
     }
-    print_line_end();
+    print_line_end(out)
 }
 
 // The line of a scenario text that start refuses.
-pub fn print_refused_scenario(number: u64) {
-    print(b"scenario");
-    print_number(number);
-    print_line_end();
+pub fn print_refused_scenario(out: &mut impl Write, number: u64) -> io::Result<()> {
+    print(out, b"scenario")?;
+    print_number(out, number)?;
+    print_line_end(out)
 }
 
-// Prints the name that argument i gives, and opens its file; below 0, with a message, where that cannot be.
-pub fn open_argument(i: usize) -> i32 {
-    let mut path = io::buffer();
-    let length = os::arg(i, &mut path);
-    print(&path[..length]);
-    print_line_end();
-    let file = os::open_read(&path[..length]);
-    if file < 0 {
-        os::fail(&path[..length]);
-    }
-    file
+// Prints the name that an argument gives, and opens its file.
+pub fn open_argument<R: Files>(rt: &R, out: &mut impl Write, name: &str) -> io::Result<R::File> {
+    print(out, name.as_bytes())?;
+    print_line_end(out)?;
+    fs::open(rt, name)
 }
 
-// Reads an open file to its end or until the text is full, closes it, and answers how many bytes it read.
-pub fn read_closing(file: i32, text: &mut [u8]) -> usize
-    ensures { IsPrefixLen result text.new }
+// Reads to the end of the input or until the text is full, and answers how many bytes it read.
+pub fn read_full(input: &mut impl Read, text: &mut [u8]) -> io::Result<usize>
+    ensures { ReadsAtMost result text.new }
 {
-    let got = io::read_full(file, text);
-    libc::close(file);
-    got
+    let mut done = 0;
+    for _ in 0..u64::MAX {
+        if done >= text.len() {
+            break;
+        }
+        match input.read(&mut text[done..]) {
+            Ok(0) => break,
+            Ok(n) => done += n,
+            Err(e) => {
+                if e.kind() != ErrorKind::Interrupted {
+                    return Err(e);
+                }
+            }
+        }
+    }
+    Ok(done)
+}
+
+// The same for an open file, which it closes.
+pub fn read_closing(file: impl Read + Drop, text: &mut [u8]) -> io::Result<usize>
+    ensures { ReadsAtMost result text.new }
+{
+    let mut input = file;
+    read_full(&mut input, text)
 }

@@ -1,43 +1,44 @@
-// Prints the listing of a scenario text on standard output, each entry's line as the entry ends.
+// Prints the listing of a scenario text, each entry's line as the entry ends.
 #![tactic(auto)]
 
-ghost use Rattle.std.specs.Prelude.{◌≤◌, length};
+ghost use Rattle.std.specs.Prelude.{OnOk, ◌≤◌, length};
+ghost use Rattle.std.specs.Io.KnownBytes.{Appends};
+ghost use Rattle.listing.specs.Listing.{bytes_of, listing_of};
 
-use libc::STDOUT_FILENO;
 use limits::ENTRY_LIMIT;
 use listing_lines::Line;
+use std::io::{self, Write};
 
-// Whether the line could be written.
-fn print(line: Line) -> bool
+// Writes the bytes of a line.
+fn print<W: Write>(out: &mut W, line: Line) -> io::Result<()>
     requires { line.length ≤ length line.bytes }
+    ensures { OnOk result (Appends (W.contents out.old) (W.contents out.new) (bytes_of line)) }
 {
     let bytes = line.bytes;
     let length = line.length;
-    io::write_all(STDOUT_FILENO, &bytes[..length])
+    out.write_all(&bytes[..length])
 }
 
-// The header and a line an entry, or the refusal of the text; whether all of it could be written.
-pub fn print_listing(text: &[u8]) -> bool {
+// The header and a line an entry, or the refusal of the text; Ok where all of it could be written, and then it is the text's listing.
+pub fn print_listing<W: Write>(out: &mut W, text: &[u8]) -> io::Result<()>
+    ensures { OnOk result (Appends (W.contents out.old) (W.contents out.new) (listing_of text.now)) }
+{
     let opening = listing::opening(text);
-    if !print(opening.line) {
-        return false;
-    }
+    print(out, opening.line)?;
     if opening.ended {
-        return true;
+        return Ok(());
     }
     let mut record = opening.record;
     let mut done: u64 = 0;
     while done < ENTRY_LIMIT {
         let piece = listing::next_entry(text, record, done);
         if piece.ended {
-            return true;
+            return Ok(());
         }
-        if !print(piece.line) {
-            return false;
-        }
+        print(out, piece.line)?;
         let after = piece.record;
         record = after;
         done += 1;
     }
-    true
+    Ok(())
 }
