@@ -5,7 +5,9 @@ use mathlib.Core.List.{List}
 use Prim.Native.Nat.{ℕ, ◌<◌, ◌≤◌}
 use lib.Dec.{leb, eqb}
 use lib.ListN.{length, get_or}
-use borrow.Author.Tests.{le-leb, lt-leb}
+use native.Mathlib.Decide.{dec_lt}
+use native.Mathlib.Omega.{arith}
+use borrow.Author.Tests.{le-leb, lt-leb, ne_eqb}
 use Rattle.laws.specs.Lists.{every}
 use Rattle.decimal.specs.declared.Decimal.{Decimal}
 use Rattle.decimal.specs.declared.Decimal.TheVariants.{Number, Malformed}
@@ -31,10 +33,17 @@ module _ (s : List ℕ) where
       unfolding decimal_of numeral
       by_digits r e q = q ∙ rw (le-leb 1 (length s) some, le-leb (length s) digit_limit few, e)
 
-  pub one_byte : length s ≤ 1 → no_leading_zero s ≡ true
+  one_byte : length s ≤ 1 → no_leading_zero s ≡ true
   unfolding no_leading_zero
   one_byte h = rw (le-leb (length s) 1 h)
 
-  pub other_byte : eqb (get_or s 0 0) zero_byte ≡ false → no_leading_zero s ≡ true
+  other_byte : eqb (get_or s 0 0) zero_byte ≡ false → no_leading_zero s ≡ true
   unfolding no_leading_zero
   other_byte e = rw e (or-true (leb (length s) 1))
+
+  -- a digit 0 leads only where it is alone
+  pub lone_zero : (1 < length s → get_or s 0 0 ≡ zero_byte → ⊥) → no_leading_zero s ≡ true
+  lone_zero h = elim (dec_lt 1 (length s)) [
+    | yes u ↦ other_byte (ne_eqb (get_or s 0 0) zero_byte (h u))
+    | no u ↦ one_byte (omega arith)
+  ]

@@ -2,46 +2,76 @@
 // could not be read whole gets no answer.
 #![tactic(auto)]
 
-use libc::{EPIPE, STDERR_FILENO, STDIN_FILENO};
+ghost use Rattle.std.specs.Io.{ReadsAtMost};
 
-fn say(what: &[u8]) {
-    io::write_all(STDERR_FILENO, what);
+use std::io::{self, ErrorKind, Read};
+
+// Reads to the end of the input or until the text is full, and answers how many bytes it read.
+fn read_full(input: &mut impl Read, text: &mut [u8]) -> io::Result<usize>
+    ensures { ReadsAtMost result text.new }
+{
+    let mut done = 0;
+    for _ in 0..u64::MAX {
+        if done >= text.len() {
+            break;
+        }
+        match input.read(&mut text[done..]) {
+            Ok(0) => break,
+            Ok(n) => done += n,
+            Err(e) => {
+                if e.kind() != ErrorKind::Interrupted {
+                    return Err(e);
+                }
+            }
+        }
+    }
+    Ok(done)
 }
 
-// Whether standard input has ended after what was read of it: one more read gives nothing.
-fn input_ended() -> bool {
+// Says what failed, and why. Where standard error cannot be written either, nothing is left to say it on.
+fn fail(rt: &impl Eprint, what: &str, error: &io::Error) {
+    let _ = eprintln!(rt; "drawdown: {what}: {error}");
+}
+
+// Whether the input has ended after what was read of it: one more read gives nothing.
+fn input_ended(rt: &impl Eprint, input: &mut impl Read) -> bool {
     let mut more = [0u8; 1];
-    let got = libc::read(STDIN_FILENO, &mut more);
-    if got < 0 {
-        os::fail(b"drawdown: standard input cannot be read");
-        return false;
+    match read_full(input, &mut more) {
+        Ok(0) => true,
+        Ok(_) => {
+            let _ = eprintln!(rt; "drawdown: standard input could not be read in one go");
+            false
+        }
+        Err(error) => {
+            fail(rt, "standard input cannot be read", &error);
+            false
+        }
     }
-    if got > 0 {
-        say(b"drawdown: standard input could not be read in one go\n");
-        return false;
-    }
-    true
 }
 
 // Prints the listing of a text. A reader that has gone away is no failure.
-fn answer(text: &[u8]) {
-    if listing_print::print_listing(text) {
-        return;
-    }
-    let error = os::errno();
-    if error != EPIPE {
-        os::fail(b"drawdown: the listing is not whole: standard output cannot be written");
+fn answer(rt: &(impl Print + Eprint), text: &[u8]) {
+    if let Err(error) = listing_print::print_listing(&mut io::writer(rt), text) {
+        if error.kind() != ErrorKind::BrokenPipe {
+            fail(
+                rt,
+                "the listing is not whole: standard output cannot be written",
+                &error,
+            );
+        }
     }
 }
 
-fn main() {
+fn main(rt: HostRuntime) {
     // one byte more than a text may have, so that this many show that it is too long
     let mut text = [0u8; 65537];
-    let got = io::read_full(STDIN_FILENO, &mut text);
-    if got < 65537 {
-        if !input_ended() {
-            return;
+    let mut input = rt.reader();
+    match read_full(&mut input, &mut text) {
+        Ok(got) => {
+            if got == 65537 || input_ended(&rt, &mut input) {
+                answer(&rt, &text[..got]);
+            }
         }
+        Err(error) => fail(&rt, "standard input cannot be read", &error),
     }
-    answer(&text[..got]);
 }

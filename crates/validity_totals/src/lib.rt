@@ -67,6 +67,7 @@ fn losses_add_up(total: u64, losses: &[i64; CELL_PLACES], rest: u64) -> bool
     left == rest
 }
 
+#[tactic(auto, unfolding(crate::specs::Totals::totals_agree))]
 fn totals_agree(losses: &[i64; CELL_PLACES], well: i64, inflow: i64, pumped: u64, time: u64) -> bool
     requires { (k : ℕ) → k < 1000 → non_neg (get_or losses.now k (pos 0)) ≡ true }
     ensures { result ≡ totals_agree losses.now well inflow pumped time }

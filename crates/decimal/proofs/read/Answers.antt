@@ -1,23 +1,20 @@
 -- `decimal::read` meets its contract, test by test.
-use Rattle.std.proofs.Common.{◌≡◌, true, eq-eqb, ne_eqb}
-use Rattle.decimal.specs.Decimal.{zero_byte, no_leading_zero}
-use Rattle.decimal.proofs.Shape.{empty, too_long, zero_leads, by_digits, one_byte, other_byte}
+use Rattle.std.proofs.Common.{◌≡◌, ◌<◌, arith, length, get_or, eq-eqb}
+use Rattle.decimal.specs.Decimal.{zero_byte}
+use Rattle.decimal.proofs.Shape.{empty, too_long, zero_leads, by_digits, lone_zero}
 use Rattle.decimal.proofs.read.Goals as goal
-use Rattle.decimal.proofs.read.Goals.{else-s-gt1-via-then-s-gt1+else-s-eq-ZERO, else-s-gt1-via-else-s-gt1}
 
 pub returns-then-s-lt1 : goal.returns-then-s-lt1
-returns-then-s-lt1 c = empty c.args.s.now c.if-s-lt1.true
+returns-then-s-lt1 c = empty c.args.s.now (omega arith)
 
 pub returns-then-s-gt-DIGIT_LIMIT : goal.returns-then-s-gt-DIGIT_LIMIT
-returns-then-s-gt-DIGIT_LIMIT c = too_long c.args.s.now c.if-s-lt1.false c.if-s-gt-DIGIT_LIMIT.true
+returns-then-s-gt-DIGIT_LIMIT c = too_long c.args.s.now (omega arith) c.if-s-gt-DIGIT_LIMIT.true
 
 pub returns-then-s-eq-ZERO : goal.returns-then-s-eq-ZERO
-returns-then-s-eq-ZERO c = zero_leads c.args.s.now c.if-s-lt1.false c.if-s-gt-DIGIT_LIMIT.false c.if-s-gt1.true (eq-eqb _ zero_byte c.if-s-eq-ZERO.true)
+returns-then-s-eq-ZERO c = zero_leads c.args.s.now (omega arith) c.if-s-gt-DIGIT_LIMIT.false (omega arith) (eq-eqb _ zero_byte c.if-s-eq-ZERO.true)
 
+-- the tests together leave no leading zero
 pub returns : goal.returns
 returns c =
-    let lead : no_leading_zero c.args.s.now ≡ true = elim c.else-s-gt1.branch [
-      | else-s-gt1-via-then-s-gt1+else-s-eq-ZERO w ↦ other_byte c.args.s.now (ne_eqb _ zero_byte w.if-s-eq-ZERO.false)
-      | else-s-gt1-via-else-s-gt1 w ↦ one_byte c.args.s.now w.if-s-gt1.false
-    ] in
-    by_digits c.args.s.now c.if-s-lt1.false c.if-s-gt-DIGIT_LIMIT.false c.read_digits.result lead c.read_digits.ensures
+    let lone : 1 < length c.args.s.now → get_or c.args.s.now 0 0 ≡ zero_byte → ⊥ = λ h e. grind arith in
+    by_digits c.args.s.now (omega arith) c.if-s-gt-DIGIT_LIMIT.false c.read_digits.result (lone_zero c.args.s.now lone) c.read_digits.ensures

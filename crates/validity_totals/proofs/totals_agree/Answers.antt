@@ -1,6 +1,5 @@
 -- `validity_totals::totals_agree`: the tests one after the other.
-use Rattle.std.proofs.Common.{Bool, ◌≡◌, sym, ap₂, ◌∙◌, true, false, ◌&&◌, le-leb, leb, to_z-of_z}
-use borrow.Author.Tests.{lt-leb}
+use Rattle.std.proofs.Common.{Bool, ◌≡◌, sym, ap₂, ◌∙◌, true, false, ◌&&◌, arith, le-leb, to_z-of_z}
 use lib.Signed.{non_neg}
 use Rattle.limits.specs.Limits.{total_limit}
 use Rattle.validity_totals.specs.Totals.{totals_agree}
@@ -16,24 +15,10 @@ returns-then-not-natural c =
     let signs : (non_neg c.args.well && non_neg c.args.inflow) ≡ false = signs_are (rw (to_z-of_z c.ranges.well) at c.natural.ensures) (rw (to_z-of_z c.ranges.inflow) at c.natural-2.ensures) c.if-not-natural.true in
     rw signs
 
-pub returns-then-pumped-gt-TOTAL_LIMIT : goal.returns-then-pumped-gt-TOTAL_LIMIT
-unfolding totals_agree
-returns-then-pumped-gt-TOTAL_LIMIT c =
-    let signs : (non_neg c.args.well && non_neg c.args.inflow) ≡ true = signs_are (rw (to_z-of_z c.ranges.well) at c.natural.ensures) (rw (to_z-of_z c.ranges.inflow) at c.natural-2.ensures) c.if-not-natural.false in
-    let over : leb c.args.pumped total_limit ≡ false = lt-leb _ _ c.if-pumped-gt-TOTAL_LIMIT.true in
-    rw (signs, over)
-
-pub returns-then-time-gt-TOTAL_LIMIT : goal.returns-then-time-gt-TOTAL_LIMIT
-unfolding totals_agree
-returns-then-time-gt-TOTAL_LIMIT c =
-    let signs : (non_neg c.args.well && non_neg c.args.inflow) ≡ true = signs_are (rw (to_z-of_z c.ranges.well) at c.natural.ensures) (rw (to_z-of_z c.ranges.inflow) at c.natural-2.ensures) c.if-not-natural.false in
-    let over : leb c.args.time total_limit ≡ false = lt-leb _ _ c.if-time-gt-TOTAL_LIMIT.true in
-    rw (signs, le-leb _ _ c.if-pumped-gt-TOTAL_LIMIT.false, over)
-
 pub returns : goal.returns
 unfolding totals_agree
 returns c =
     let signs : (non_neg c.args.well && non_neg c.args.inflow) ≡ true = signs_are (rw (to_z-of_z c.ranges.well) at c.natural.ensures) (rw (to_z-of_z c.ranges.inflow) at c.natural-2.ensures) c.if-not-natural.false in
     let well = rw (to_z-of_z c.ranges.well) at c.size.ensures.0 in
     let inflow = rw (to_z-of_z c.ranges.inflow) at c.size-2.ensures.0 in
-    rw (signs, le-leb _ _ c.if-pumped-gt-TOTAL_LIMIT.false, le-leb _ _ c.if-time-gt-TOTAL_LIMIT.false) (rw (well, inflow) at c.losses_add_up.ensures)
+    rw (signs, le-leb c.args.pumped total_limit (omega arith), le-leb c.args.time total_limit (omega arith)) (rw (well, inflow) at c.losses_add_up.ensures)
