@@ -1,2 +1,3 @@
+pub mod FlowTurned
 pub mod Laws
 pub mod Order

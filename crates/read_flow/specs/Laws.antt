@@ -2,33 +2,25 @@
 --     Led             two ends that a C rule joins, in this order: the well's face, one across, one down; led: from the test
 --     face_listed     the face that leads from one end to the other is among the grid's
 --     one_way         no face leads back
---     flow_turned     named the other way round, two ends give the same number with the other sign, or the same refusal
-use Rattle.std.specs.Prelude.{◌≡◌, Bool, cond, not, ◌&&◌, ◌||◌, leb, ltb, ℤ, neg_ℤ}
+use Rattle.std.specs.Prelude.{◌≡◌, Bool, ◌&&◌, ◌||◌, leb, ltb}
 use Rattle.std.proofs.Math.Path.{refl}
-use Rattle.std.proofs.Common.{sym, ap, ◌∙◌, arith}
+use Rattle.std.proofs.Common.{arith}
 use Rattle.std.proofs.Math.Bool.{true, false, and-false}
 use Rattle.std.proofs.lemmas.Bool.{false≢true}
 use mathlib.Core.List.Memᴰ
-use mathlib.Core.List.{[], ◌∷◌, map, flat_map, Memᴰ}
+use mathlib.Core.List.{map, flat_map, Memᴰ}
 use Prim.Native.Nat.{ℕ, zero, suc, ◌-◌, ◌≤◌, ◌<◌, zero-le}
 use Rattle.std.proofs.Math.Dec.{eqb}
-use Rattle.std.proofs.Math.IntN.{neg_ℤ-neg_ℤ}
 use borrow.Author.Tests.{eqb-true, leb-true, ltb-true, eq-eqb, ne_eqb}
 use Rattle.laws.specs.All.{and_left, and_right}
-use Rattle.laws.specs.Lists.{first}
 use Rattle.laws.specs.Rows.{four_hold}
 use Rattle.laws.specs.Sums.{mem_range, mem_flat_map}
-use Rattle.network.specs.Network.{flow, length_out, unstable}
-use Rattle.network.specs.Grid.{Grid, stored_columns, layers_of, upper_layers, across_face, down_face, screen_faces, faces_of, network_of}
+use Rattle.network.specs.Grid.{Grid, stored_columns, layers_of, upper_layers, across_face, down_face, screen_faces, faces_of}
 use Rattle.network.specs.laws.Cells.{joined}
 use Rattle.network.specs.laws.Proper.{across_mem, down_mem}
-use Rattle.record.specs.declared.Record.{Record}
-use Rattle.record.specs.Record.{grid_of, state_of}
-use Rattle.validity.specs.Validity.{valid}
 use Rattle.readings.specs.declared.Place.{Place}
 use Rattle.readings.specs.declared.Place.TheVariants.{Well, Cell}
-use Rattle.readings.specs.Readings.{amount_of, is_layer, is_stored, leads, face_from, water_from, flow_of}
-use Rattle.read_flow.specs.Turned.{opposite}
+use Rattle.readings.specs.Readings.{is_layer, is_stored, leads, face_from}
 
 pub data Led (G : Grid) : Place → Place → Type 0 where
   screen : {k l : ℕ} → 1 ≤ k → k ≤ G.layers → G.screened (k - 1) ≡ true → l ≡ 1 → Led G Well (Cell k l)
@@ -70,29 +62,3 @@ module _ (G : Grid) where
   one_way (screen k₁ k₂ s e) = refl
   one_way (across {i} {j} {k} {l} i₁ i₂ j₁ j₂ e f) = rw (ne_eqb j (suc l) (λ q. absurd (omega arith)), ne_eqb i (suc k) (λ q. absurd (omega arith)), and-false, and-false)
   one_way (down {i} {j} {k} {l} i₁ i₂ j₁ j₂ e f) = rw (ne_eqb i k (λ q. absurd (omega arith)), ne_eqb i (suc k) (λ q. absurd (omega arith)), and-false)
-
--- what is left to judge where there is a face
-judged : (u w : Bool) (x : ℤ) → amount_of (first ((u, 7) ∷ (w, 8) ∷ [])) (neg_ℤ x) ≡ opposite (amount_of (first ((u, 7) ∷ (w, 8) ∷ [])) x)
-unfolding amount_of first opposite
-judged true w x = refl
-judged false true x = refl
-judged false false x = refl
-
--- the answer either way, by the tests and the water of the face forth and back
-either_way : (a s t u w : Bool) (x y : ℤ) → (s ≡ true → t ≡ false)
-    → amount_of (first ((a, 14) ∷ (not (t || s), 12) ∷ (u, 7) ∷ (w, 8) ∷ [])) (cond t y (neg_ℤ x))
-    ≡ opposite (amount_of (first ((a, 14) ∷ (not (s || t), 12) ∷ (u, 7) ∷ (w, 8) ∷ [])) (cond s x (neg_ℤ y)))
-unfolding amount_of first opposite
-either_way true s t u w x y h = refl
-either_way false true t u w x y h = rw (h refl) (judged u w x)
-either_way false false true u w x y h = ap (amount_of (first ((u, 7) ∷ (w, 8) ∷ []))) (sym (neg_ℤ-neg_ℤ y)) ∙ judged u w (neg_ℤ y)
-either_way false false false u w x y h = refl
-
-pub flow_turned : (r : Record) (a b : Place) (dt : ℕ) → flow_of r b a dt ≡ opposite (flow_of r a b dt)
-unfolding flow_of water_from
-flow_turned r a b dt =
-    either_way (not (valid r)) (leads G a b) (leads G b a) (length_out dt) (unstable (network_of G) dt) (flow (network_of G) (state_of r).losses dt (face_from G a b)) (flow (network_of G) (state_of r).losses dt (face_from G b a))
-    (λ e. one_way G (led G a b e))
-  where
-    G : Grid
-    G = grid_of r

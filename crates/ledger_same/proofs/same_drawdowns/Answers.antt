@@ -16,7 +16,7 @@ use Rattle.validity.specs.Validity.{equalℤ, valid}
 use Rattle.validity.specs.Laws.{equal, itself}
 use Rattle.readings.specs.Readings.{sameness_of, amount_of, is_named, number_of}
 use Rattle.readings.specs.Laws.{given_amount, named-place, place-named, equal_names, equal_numbers, read_depth}
-use Rattle.readings.specs.SameLaws.{same_answer}
+use Rattle.readings.proofs.SameLaws.{same_answer}
 use Rattle.read_same.specs.Same.{Compares}
 use Rattle.read_same.specs.Laws.{compared}
 use Rattle.ledger_same.specs.SameDrawdowns.{SameDrawdowns, same_depths, same_drawdowns_of}

@@ -1,7 +1,7 @@
 -- Two records of which `same` says yes are equal, and so is what `repeat` makes of them.
 use mathlib.Core.Path.{ap}
 use Rattle.step.specs.Repeat.{repeat_of}
-use Rattle.readings.specs.SameLaws.{same_answer}
+use Rattle.readings.proofs.SameLaws.{same_answer}
 use Rattle.ledger_same.proofs.same_repeats.Goals as goal
 
 pub returns : goal.returns

@@ -1,7 +1,7 @@
 -- Two records of which `same` says yes are equal, and so is all that is made of them.
 use mathlib.Core.Path.{ap₂}
 use Rattle.ledger.specs.Calls.{replies_to}
-use Rattle.readings.specs.SameLaws.{same_answer}
+use Rattle.readings.proofs.SameLaws.{same_answer}
 use Rattle.ledger_same.specs.SameCalls.{records_after}
 use Rattle.ledger_same.proofs.Same.{same_calls, same_itself, after_each}
 use Rattle.ledger_same.proofs.same_runs.Goals as goal

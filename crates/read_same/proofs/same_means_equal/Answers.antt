@@ -3,7 +3,7 @@ use Rattle.std.proofs.Common.{◌≡◌, true, false, sym, subst, ◌∙◌}
 use Rattle.std.proofs.lemmas.Bool.{false≢true}
 use Rattle.record.specs.declared.Record.{Record}
 use Rattle.readings.specs.Readings.{same_record, same_of}
-use Rattle.readings.specs.SameLaws.{same_record_lem, same_itself}
+use Rattle.readings.proofs.SameLaws.{same_record_lem, same_itself}
 use Rattle.read_same.specs.Same.{Compares}
 use Rattle.read_same.specs.Laws.{compared}
 use Rattle.read_same.proofs.same_means_equal.Goals as goal
