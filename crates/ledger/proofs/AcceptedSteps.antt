@@ -11,8 +11,8 @@ use Rattle.laws.specs.Integer.{+ℤ_swap, regroup, larger_assoc, larger_comm}
 use Rattle.laws.specs.Lists.{larger, ifℤ, sumℕ, sumℤ}
 use Rattle.laws.specs.Sums.{ifℤ_add, ifℤ_pos, ifℕ_zero}
 use Rattle.network.specs.Network.{Network, State, drawdown, flow, inward, loss_in, moved, refusal}
-use Rattle.network.specs.laws.Ends.{Inside}
-use Rattle.network.specs.laws.Conserve.{conserved}
+use Rattle.network.proofs.laws.Ends.{Inside}
+use Rattle.network.proofs.laws.Conserve.{conserved}
 use Rattle.ledger.specs.Ledger.{Accepted, pumped_by, net_into, greatest}
 
 pub data Steps (N : Network) : State → List Accepted → State → Type 0 where

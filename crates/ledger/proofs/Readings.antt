@@ -21,7 +21,7 @@ use Rattle.laws.specs.Sums.{sumℤ_ext, range-below}
 use Rattle.network.specs.Network.{Network, State, is_place, loss_at, loss_in, losses_after, length_out, unstable, refusal}
 use Rattle.network.specs.Network as network
 use Rattle.network.specs.Grid.{Grid, layers_of, stored_columns, place_count, place, one_per_place, down_rule, across_face, down_face, network_of}
-use Rattle.network.specs.laws.Ends.{Inside}
+use Rattle.network.proofs.laws.Ends.{Inside}
 use Rattle.site.specs.declared.Site.{Site}
 use Rattle.site.specs.Site.{is_screened}
 use Rattle.record.specs.declared.Record.{Record}

@@ -16,7 +16,7 @@ use Rattle.limits.specs.Limits.{column_places, cell_places}
 use Rattle.network.specs.Network.{Network, State, at_rest, loss_at, moved, refusal}
 use Rattle.network.specs.Network as network
 use Rattle.network.specs.Grid.{place, network_of}
-use Rattle.network.specs.laws.Preserve.{loss-at_rest, depth-at_rest}
+use Rattle.network.proofs.laws.Preserve.{loss-at_rest, depth-at_rest}
 use Rattle.site.specs.declared.Site.{Site}
 use Rattle.record.specs.declared.Record.{Record}
 use Rattle.record.specs.Record.{slots, is_cell, grid_of}

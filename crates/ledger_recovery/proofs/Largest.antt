@@ -16,7 +16,7 @@ use Rattle.laws.specs.Lists.{larger}
 use Rattle.laws.specs.Sums.{mem_range, range_mem, range-below, mem_flat_map, flat_map_mem}
 use Rattle.network.specs.Network.{drawdown}
 use Rattle.network.specs.Grid.{Grid, stored_columns, layers_of, place_count, place, network_of}
-use Rattle.network.specs.laws.Places.{place-below, by_place}
+use Rattle.network.proofs.laws.Places.{place-below, by_place}
 use Rattle.readings.specs.declared.Place.{Place}
 use Rattle.readings.specs.declared.Place.TheVariants.{Well, Cell}
 use Rattle.readings.specs.Readings.{is_named, number_of}

@@ -21,8 +21,8 @@ use Rattle.laws.specs.Sums.{sumℤ_ext, range_mem}
 use Rattle.network.specs.Network.{Network, State, is_place, loss_at, drawdown, loss_in, losses_after, moved, rate_or_length_out, stable, unstable, totals_pass, well_too_deep, table_too_deep, step_tests}
 use Rattle.network.specs.Grid.{network_of}
 use Rattle.network.specs.Kept.{Proper}
-use Rattle.network.specs.laws.Bounds.{depth_natural, inflow_rises, depths_after}
-use Rattle.network.specs.laws.Preserve.{accepted}
+use Rattle.network.proofs.laws.Bounds.{depth_natural, inflow_rises, depths_after}
+use Rattle.network.proofs.laws.Preserve.{accepted}
 use Rattle.record.specs.declared.Record.{Record}
 use Rattle.record.specs.Record.{grid_of, state_of, outcome_of, answer_of}
 use Rattle.record.specs.Laws.{refusal_of}

@@ -14,8 +14,8 @@ use Rattle.limits.specs.Limits.{total_limit}
 use Rattle.network.specs.Network.{Network, State, drawdown, loss_in}
 use Rattle.network.specs.Grid.{network_of}
 use Rattle.network.specs.Kept.{Proper, Kept}
-use Rattle.network.specs.laws.Bounds.{depth_natural}
-use Rattle.network.specs.laws.Totals.{size, size_is, all-lost}
+use Rattle.network.proofs.laws.Bounds.{depth_natural}
+use Rattle.network.proofs.laws.Totals.{size, size_is, all-lost}
 use Rattle.record.specs.declared.Record.{Record}
 use Rattle.record.specs.Record.{grid_of, state_of}
 use Rattle.validity.specs.Validity.{valid}

@@ -1,4 +1,3 @@
 pub mod Network
 pub mod Grid
 pub mod Kept
-pub mod laws

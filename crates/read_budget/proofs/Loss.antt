@@ -23,7 +23,7 @@ use Rattle.limits.specs.Limits.{total_limit}
 use Rattle.network.specs.Network.{Network, State, loss_at, loss_in}
 use Rattle.network.specs.Grid.{place, place_count, one_per_place, network_of}
 use Rattle.network.specs.Kept.{Kept}
-use Rattle.network.specs.laws.Places.{place_cell, by_place}
+use Rattle.network.proofs.laws.Places.{place_cell, by_place}
 use Rattle.site.specs.Laws.{counts_hold_lem}
 use Rattle.site.specs.Limited.{Counts}
 use Rattle.record.specs.declared.Record.{Record}
@@ -36,7 +36,7 @@ use Rattle.readings.specs.declared.Balance.{Balance}
 use Rattle.readings.specs.declared.Totals.{Totals}
 use Rattle.read_budget.specs.Counted.{slot_loss, counted_loss, every_cell}
 use Rattle.readings.specs.Readings.{totals_in, set_of, budget_of, loss_of}
-use Rattle.network.specs.laws.Totals.{size, size_is, all-lost}
+use Rattle.network.proofs.laws.Totals.{size, size_is, all-lost}
 use Rattle.readings.specs.Laws.{amount_refused, amount_given, balance_refused, balance_given}
 
 -- ---- the number of cells, and the slot of a place

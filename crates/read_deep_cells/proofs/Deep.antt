@@ -26,8 +26,8 @@ use Rattle.laws.specs.Rows.{same_test, both_hold}
 use Rattle.laws.specs.Sums.{sumℕ_ext, sumℕ-swap, sumℕ-flat_map, flat_map_mem, range_mem}
 use Rattle.network.specs.Network.{Network, drawdown}
 use Rattle.network.specs.Grid.{Grid, stored_columns, layers_of, place, network_of}
-use Rattle.network.specs.laws.Bounds as bounds
-use Rattle.network.specs.laws.Places.{place-below}
+use Rattle.network.proofs.laws.Bounds as bounds
+use Rattle.network.proofs.laws.Places.{place-below}
 use Rattle.record.specs.declared.Record.{Record}
 use Rattle.record.specs.Record.{grid_of, state_of}
 use Rattle.validity.specs.Validity.{equalℤ, valid}

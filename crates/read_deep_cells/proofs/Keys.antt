@@ -24,7 +24,7 @@ use Rattle.laws.specs.Rows.{both_hold}
 use Rattle.laws.specs.Sums.{sumℕ_ext, sumℕ_zero, sumℕ_one, sumℕ-map, range-below}
 use Rattle.network.specs.Network.{drawdown}
 use Rattle.network.specs.Grid.{place, network_of}
-use Rattle.network.specs.laws.Places.{place-below}
+use Rattle.network.proofs.laws.Places.{place-below}
 use Rattle.record.specs.declared.Record.{Record}
 use Rattle.record.specs.Record.{grid_of, state_of}
 use Rattle.validity.specs.Validity.{valid}

@@ -16,7 +16,7 @@ use Rattle.laws.specs.Signed.{read, small_fits}
 use Rattle.limits.specs.Limits.{drawdown_limit}
 use Rattle.network.specs.Network.{Network, drawdown, loss_at}
 use Rattle.network.specs.Grid.{place, network_of, one_per_place}
-use Rattle.network.specs.laws.Places.{place-below}
+use Rattle.network.proofs.laws.Places.{place-below}
 use Rattle.site.specs.Laws.{counts_hold_lem}
 use Rattle.site.specs.Limited.{Counts}
 use Rattle.record.specs.declared.Record.{Record}

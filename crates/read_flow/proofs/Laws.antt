@@ -29,9 +29,9 @@ use Rattle.limits.specs.Limits.{length_limit, total_limit, drawdown_limit}
 use Rattle.network.specs.Network.{Rule, Face, Network, loss_at, drawdown, in_use_by, in_use, water, crossing, flow, stable, table_too_deep}
 use Rattle.network.specs.Grid.{Grid, place, one_per_place, across_rule, down_rule, across_face, down_face, network_of}
 use Rattle.network.specs.Kept.{OnTable}
-use Rattle.network.specs.laws.Bounds.{face_fits}
-use Rattle.network.specs.laws.Places.{place-below, place_well}
-use Rattle.network.specs.laws.Proper.{on_table}
+use Rattle.network.proofs.laws.Bounds.{face_fits}
+use Rattle.network.proofs.laws.Places.{place-below, place_well}
+use Rattle.network.proofs.laws.Proper.{on_table}
 use Rattle.site.specs.declared.Site.{Site}
 use Rattle.site.specs.Columns.{area_at}
 use Rattle.site.specs.Laws.{numbers_hold_lem}

@@ -16,8 +16,8 @@ use Rattle.laws.specs.All.{and_left, and_right}
 use Rattle.laws.specs.Rows.{four_hold}
 use Rattle.laws.specs.Sums.{mem_range, mem_flat_map}
 use Rattle.network.specs.Grid.{Grid, stored_columns, layers_of, upper_layers, across_face, down_face, screen_faces, faces_of}
-use Rattle.network.specs.laws.Cells.{joined}
-use Rattle.network.specs.laws.Proper.{across_mem, down_mem}
+use Rattle.network.proofs.laws.Cells.{joined}
+use Rattle.network.proofs.laws.Proper.{across_mem, down_mem}
 use Rattle.readings.specs.declared.Place.{Place}
 use Rattle.readings.specs.declared.Place.TheVariants.{Well, Cell}
 use Rattle.readings.specs.Readings.{is_layer, is_stored, leads, face_from}

@@ -14,8 +14,8 @@ use lib.Signed.{lt_z}
 use Rattle.limits.specs.Limits.{drawdown_limit}
 use Rattle.network.specs.Network.{Network, storage_at, drawdown, losses_after}
 use Rattle.network.specs.Grid.{Grid, place, network_of}
-use Rattle.network.specs.laws.Bounds.{losses_after_lem, depths_after}
-use Rattle.network.specs.laws.Places.{place-below, place_cell}
+use Rattle.network.proofs.laws.Bounds.{losses_after_lem, depths_after}
+use Rattle.network.proofs.laws.Places.{place-below, place_cell}
 use Rattle.site.specs.Laws.{counts_hold_lem}
 use Rattle.site.specs.Limited.{Counts}
 use Rattle.record.specs.declared.Record.{Record}

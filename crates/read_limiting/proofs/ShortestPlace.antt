@@ -19,7 +19,7 @@ use Rattle.words.specs.Fitted.{fitted}
 use Rattle.words.specs.declared.Quotient.TheVariants.{Word, Over}
 use Rattle.network.specs.Network.{Network, storage_at, conductance_sum, stable}
 use Rattle.network.specs.Grid.{Grid, place, place_count, one_per_place, network_of}
-use Rattle.network.specs.laws.Places.{by_place, place-below, place_cell, get_or_one}
+use Rattle.network.proofs.laws.Places.{by_place, place-below, place_cell, get_or_one}
 use Rattle.site.specs.Laws.{counts_hold_lem}
 use Rattle.site.specs.Limited.{Counts}
 use Rattle.record.specs.declared.Record.{Record}

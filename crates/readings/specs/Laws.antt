@@ -24,8 +24,8 @@ use Rattle.limits.specs.Limits.{total_limit}
 use Rattle.network.specs.Network.{Network, State, loss_at, drawdown}
 use Rattle.network.specs.Grid.{Grid, place_count, place, one_per_place, network_of}
 use Rattle.network.specs.Kept.{Kept}
-use Rattle.network.specs.laws.Places.{place-below, place_is, off_well, by_place}
-use Rattle.network.specs.laws.Totals.{size, all-lost}
+use Rattle.network.proofs.laws.Places.{place-below, place_is, off_well, by_place}
+use Rattle.network.proofs.laws.Totals.{size, all-lost}
 use Rattle.record.specs.declared.Record.{Record}
 use Rattle.record.specs.Record.{grid_of, state_of}
 use Rattle.validity.specs.Validity.{valid}

@@ -16,10 +16,10 @@ use Rattle.laws.specs.Lists.{ifℤ}
 use Rattle.limits.specs.Limits.{total_limit}
 use Rattle.network.specs.Network.{Rule, Network, drawdown, in_use_by, in_use, water, crossing, flow, stable}
 use Rattle.network.specs.Grid.{place, across_rule, across_face, network_of}
-use Rattle.network.specs.laws.Bounds.{face_fits}
-use Rattle.network.specs.laws.Cells.{joined}
-use Rattle.network.specs.laws.Places.{place_well}
-use Rattle.network.specs.laws.Proper.{across_mem}
+use Rattle.network.proofs.laws.Bounds.{face_fits}
+use Rattle.network.proofs.laws.Cells.{joined}
+use Rattle.network.proofs.laws.Places.{place_well}
+use Rattle.network.proofs.laws.Proper.{across_mem}
 use Rattle.site.specs.Site.{is_screened}
 use Rattle.record.specs.declared.Record.{Record}
 use Rattle.record.specs.Record.{has_screen, across_in, grid_of, state_of}

@@ -24,7 +24,7 @@ use Rattle.laws.specs.Sums.{mem_range, none_at}
 use Rattle.limits.specs.Limits.{storage_limit, drawdown_limit}
 use Rattle.network.specs.Network.{Network, loss_at, storage_at, drawdown, table_too_deep}
 use Rattle.network.specs.Grid.{place, place_count, stored_columns, one_per_place, network_of}
-use Rattle.network.specs.laws.Places.{place-last, place-below, get_or_one}
+use Rattle.network.proofs.laws.Places.{place-last, place-below, get_or_one}
 use Rattle.geometry.specs.Geometry.{well_storage}
 use Rattle.site.specs.Laws.{counts_hold_lem, numbers_hold_lem}
 use Rattle.site.specs.Limited.{Counts}

@@ -21,7 +21,7 @@ use Rattle.laws.specs.Rows.{both_hold, all_from}
 use Rattle.limits.specs.Limits.{layer_places, column_places, coefficient_places, cell_places}
 use Rattle.network.specs.Network.{Network, State, at_rest}
 use Rattle.network.specs.Grid.{network_of}
-use Rattle.network.specs.laws.Preserve.{depth-at_rest, kept_at_rest}
+use Rattle.network.proofs.laws.Preserve.{depth-at_rest, kept_at_rest}
 use Rattle.text.specs.Text.{well_formed, numbers}
 use Rattle.site.specs.declared.Site.{Site}
 use Rattle.site.specs.Site.{is_screened, counts_hold, numbers_hold, radii_hold, screen_holds}

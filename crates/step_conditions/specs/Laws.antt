@@ -16,7 +16,7 @@ use Rattle.laws.specs.Rows.{same_test, all_from}
 use Rattle.laws.specs.Sums.{mem_range, range_mem, none, none_at}
 use Rattle.network.specs.Network.{loss_at, storage_at, drawdown, well_too_deep, table_too_deep}
 use Rattle.network.specs.Grid.{place, stored_columns, one_per_place, network_of}
-use Rattle.network.specs.laws.Places.{get_or_one}
+use Rattle.network.proofs.laws.Places.{get_or_one}
 use Rattle.site.specs.Site.{counts_hold}
 use Rattle.site.specs.Laws.{counts_hold_lem}
 use Rattle.record.specs.declared.Record.{Record}

@@ -13,7 +13,7 @@ use Rattle.laws.specs.Span.{span, span-first, span_ext, spans, spans_none, spans
 use Rattle.limits.specs.Limits.{total_limit, drawdown_limit, length_limit}
 use Rattle.geometry.specs.Geometry.{from_table}
 use Rattle.network.specs.Network.{in_use_by, saturated, at_table, water}
-use Rattle.network.specs.laws.Water.{reduced, size, runs_ahead, runs_back}
+use Rattle.network.proofs.laws.Water.{reduced, size, runs_ahead, runs_back}
 use Rattle.step_flows.specs.Flows.{reduced_c, table_c, flow_at, table_flow_at, down_flow_at}
 
 -- ---- C in use in layer 1

@@ -13,7 +13,7 @@ use Rattle.laws.specs.Lists.{ifℤ}
 use Rattle.laws.specs.Rows.{same_test}
 use Rattle.network.specs.Network.{Network, drawdown, in_use_by, in_use, water, crossing, flow}
 use Rattle.network.specs.Grid.{place, across_rule, down_rule, across_face, down_face, network_of}
-use Rattle.network.specs.laws.Cells.{joined}
+use Rattle.network.proofs.laws.Cells.{joined}
 use Rattle.site.specs.Site.{is_screened}
 use Rattle.record.specs.declared.Record.{Record}
 use Rattle.record.specs.Record.{slot, across_in, grid_of, state_of}

@@ -22,12 +22,12 @@ use Rattle.laws.specs.Sums.{map_ext, sumℤ_ext, Room, range-below, length-range
 use Rattle.limits.specs.Limits.{rate_limit, length_limit, total_limit}
 use Rattle.network.specs.Network.{Network, State, loss_at, flow, outflow, loss_after, losses_after, from_last_column, stable}
 use Rattle.network.specs.Grid.{place, layers_of, one_per_place, across_face, down_face, network_of}
-use Rattle.network.specs.laws.Bounds.{face_fits}
-use Rattle.network.specs.laws.Cells.{joined, outflow_cell, outflow_well, inward-last}
-use Rattle.network.specs.laws.Conserve.{loss-after}
-use Rattle.network.specs.laws.Places.{place-below, place_cell}
-use Rattle.network.specs.laws.Proper.{across_mem, down_mem}
-use Rattle.network.specs.laws.Room.{cell_room_lem, well_room_lem, last_room_lem}
+use Rattle.network.proofs.laws.Bounds.{face_fits}
+use Rattle.network.proofs.laws.Cells.{joined, outflow_cell, outflow_well, inward-last}
+use Rattle.network.proofs.laws.Conserve.{loss-after}
+use Rattle.network.proofs.laws.Places.{place-below, place_cell}
+use Rattle.network.proofs.laws.Proper.{across_mem, down_mem}
+use Rattle.network.proofs.laws.Room.{cell_room_lem, well_room_lem, last_room_lem}
 use Rattle.geometry.specs.Geometry.{well_storage}
 use Rattle.site.specs.Laws.{numbers_hold_lem}
 use Rattle.site.specs.Limited.{LayerNumbers}

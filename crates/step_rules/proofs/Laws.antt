@@ -27,8 +27,8 @@ use Rattle.laws.specs.Sums.{or_no}
 use Rattle.limits.specs.Limits.{rate_limit, length_limit}
 use Rattle.network.specs.Network.{Network, State, loss_at, storage_at, drawdown, losses_after, moved, length_out, rate_or_length_out, stable, unstable, totals_pass, well_too_deep, table_too_deep, step_tests}
 use Rattle.network.specs.Grid.{place, one_per_place, network_of}
-use Rattle.network.specs.laws.Bounds.{depth_natural, losses_after_lem}
-use Rattle.network.specs.laws.Places.{place-below}
+use Rattle.network.proofs.laws.Bounds.{depth_natural, losses_after_lem}
+use Rattle.network.proofs.laws.Places.{place-below}
 use Rattle.site.specs.Laws.{counts_hold_lem, numbers_hold_lem}
 use Rattle.site.specs.Limited.{Counts}
 use Rattle.record.specs.declared.Record.{Record}

@@ -20,9 +20,9 @@ use Rattle.laws.specs.Sums.{get_or-map-range}
 use Rattle.network.specs.Network.{Network, State, loss_at, drawdown, moved, stable, unstable, well_too_deep, step_tests, refusal}
 use Rattle.network.specs.Grid.{place, place_count, network_of, one_per_place}
 use Rattle.network.specs.Kept.{Kept}
-use Rattle.network.specs.laws.Bounds.{depths_after}
-use Rattle.network.specs.laws.Places.{one_per_place_lem}
-use Rattle.network.specs.laws.Preserve.{accepted, kept_moved}
+use Rattle.network.proofs.laws.Bounds.{depths_after}
+use Rattle.network.proofs.laws.Places.{one_per_place_lem}
+use Rattle.network.proofs.laws.Preserve.{accepted, kept_moved}
 use Rattle.site.specs.Laws.{counts_hold_lem}
 use Rattle.site.specs.Limited.{Counts}
 use Rattle.record.specs.declared.Record.{Record}

@@ -20,8 +20,8 @@ use Rattle.laws.specs.Sums.{sumℕ_ext, range-below}
 use Rattle.limits.specs.Limits.{conductance_limit}
 use Rattle.network.specs.Network.{storage_at, conductance_sum, stable}
 use Rattle.network.specs.Grid.{place, place_count, layers_of, one_per_place, network_of}
-use Rattle.network.specs.laws.Cells.{joined, conductance_cell, conductance_well}
-use Rattle.network.specs.laws.Places.{by_place, place-below, get_or_one}
+use Rattle.network.proofs.laws.Cells.{joined, conductance_cell, conductance_well}
+use Rattle.network.proofs.laws.Places.{by_place, place-below, get_or_one}
 use Rattle.site.specs.Site.{is_screened, counts_hold}
 use Rattle.site.specs.Laws.{counts_hold_lem}
 use Rattle.site.specs.Limited.{Counts}

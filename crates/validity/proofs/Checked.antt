@@ -17,7 +17,7 @@ use Rattle.limits.specs.Limits.{conductance_limit, storage_limit, drawdown_limit
 use Rattle.network.specs.Network.{is_place, loss_at, drawdown, loss_in, well_too_deep, table_too_deep}
 use Rattle.network.specs.Grid.{stored_columns, place_count, place, network_of}
 use Rattle.network.specs.Kept.{Kept}
-use Rattle.network.specs.laws.Places.{by_place, place-below, length_one}
+use Rattle.network.proofs.laws.Places.{by_place, place-below, length_one}
 use Rattle.geometry.specs.Geometry.{well_storage}
 use Rattle.site.specs.Site.{counts_hold, numbers_hold, radii_hold, screen_holds}
 use Rattle.site.specs.Laws.{counts_hold_lem, numbers_hold_lem}

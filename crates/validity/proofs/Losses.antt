@@ -16,7 +16,7 @@ use Rattle.laws.specs.RowSums.{sum_shift, sum_cut, sum_rows, sum_places}
 use Rattle.laws.specs.Sums.{sumℕ_ext, sumℕ_zero, sumℕ-map, sumℕ-flat_map, sumℤ_ext, sumℤ_pos, range_mem}
 use Rattle.network.specs.Network.{is_place, loss_at, storage_at, drawdown, loss_in}
 use Rattle.network.specs.Grid.{stored_columns, layers_of, place, one_per_place, network_of}
-use Rattle.network.specs.laws.Places.{get_or_one, length_one}
+use Rattle.network.proofs.laws.Places.{get_or_one, length_one}
 use Rattle.record.specs.declared.Record.{Record}
 use Rattle.record.specs.Record.{slot, is_cell, grid_of, state_of}
 use Rattle.coefficient_slots.specs.Slots.{used_slot}

@@ -27,9 +27,9 @@ use Rattle.limits.specs.Limits.{total_limit, drawdown_limit}
 use Rattle.network.specs.Network.{Network, State, is_place, loss_at, drawdown, loss_in, well_too_deep, table_too_deep}
 use Rattle.network.specs.Grid.{network_of}
 use Rattle.network.specs.Kept.{Proper, Kept}
-use Rattle.network.specs.laws.Bounds.{depth_natural}
-use Rattle.network.specs.laws.Places.{length_one}
-use Rattle.network.specs.laws.Proper.{proper_grid}
+use Rattle.network.proofs.laws.Bounds.{depth_natural}
+use Rattle.network.proofs.laws.Places.{length_one}
+use Rattle.network.proofs.laws.Proper.{proper_grid}
 use Rattle.geometry.specs.Geometry.{well_storage}
 use Rattle.site.specs.Site.{is_screened, counts_hold, numbers_hold, radii_hold, screen_layer, screen_top, screen_holds}
 use Rattle.site.specs.Laws.{counts_hold_lem, numbers_hold_lem}

@@ -29,10 +29,10 @@ use Rattle.laws.specs.Lists.{ifℕ, ifℤ, sumℕ, range}
 use Rattle.laws.specs.Sums.{ifℕ_zero, ifℤ_pos, sumℕ_le, sumℕ_ext, sumℕ_add, sumℕ_scale, sumℕ_one, sumℕ_pick, sumℤ_natural, mem_range, range-below, none_at}
 use Rattle.network.specs.Network.{Face, Network, State, is_place, loss_at, storage_at, drawdown, in_use, water, crossing, flow, toward, inward, loss_in, from_last_column, loss_after, losses_after, conductance_sum, stable, table_too_deep}
 use Rattle.network.specs.Kept.{OnTable, Proper, Kept}
-use Rattle.network.specs.laws.Ends.{Inside, ends, over_set, leaving, entering, outflow_parts}
-use Rattle.network.specs.laws.Conserve.{loss-after, balanced}
-use Rattle.network.specs.laws.Totals.{size, all-lost}
-use Rattle.network.specs.laws.Water.{in_use_lem, ahead_le, back_le}
+use Rattle.network.proofs.laws.Ends.{Inside, ends, over_set, leaving, entering, outflow_parts}
+use Rattle.network.proofs.laws.Conserve.{loss-after, balanced}
+use Rattle.network.proofs.laws.Totals.{size, all-lost}
+use Rattle.network.proofs.laws.Water.{in_use_lem, ahead_le, back_le}
 
 module _ (N : Network) (proper : Proper N) (s : State) (kept : Kept N s) where
   -- V and D of a place

@@ -10,10 +10,10 @@ use Rattle.laws.specs.Sums.{sumℕ_ext, sumℕ-map, sumℕ_zero, sumℤ_diff, pl
 use Rattle.network.specs.Network.{Face, State, is_place, loss_at, flow, from_last_column, stable}
 use Rattle.network.specs.Grid.{Grid, layers_of, place, across_face, down_face, faces_of, network_of}
 use Rattle.network.specs.Kept.{Proper, Kept}
-use Rattle.network.specs.laws.Ends.{leaving, entering}
-use Rattle.network.specs.laws.Bounds.{loss, entering_le, supply, last_face, inflow_le}
-use Rattle.network.specs.laws.Cells.{joined, cell, well, last, inward-last}
-use Rattle.network.specs.laws.Places.{place-below}
+use Rattle.network.proofs.laws.Ends.{leaving, entering}
+use Rattle.network.proofs.laws.Bounds.{loss, entering_le, supply, last_face, inflow_le}
+use Rattle.network.proofs.laws.Cells.{joined, cell, well, last, inward-last}
+use Rattle.network.proofs.laws.Places.{place-below}
 
 module _ (G : Grid) (proper : Proper (network_of G)) (s : State) (kept : Kept (network_of G) s) (dt : ℕ) (st : stable (network_of G) dt ≡ true) where
   abbrev pub water : Face → ℤ

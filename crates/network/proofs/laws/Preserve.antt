@@ -12,8 +12,8 @@ use Rattle.laws.specs.Sums.{ifℕ_zero, ifℤ_pos, sumℕ_zero, sumℤ_ext, sum�
 use Rattle.limits.specs.Limits.{total_limit, drawdown_limit}
 use Rattle.network.specs.Network.{Network, State, at_rest, is_place, loss_at, drawdown, loss_in, loss_after, losses_after, moved, rate_or_length_out, stable, unstable, totals_pass, well_too_deep, table_too_deep, step_tests, refusal}
 use Rattle.network.specs.Kept.{Proper, Kept}
-use Rattle.network.specs.laws.Conserve.{balanced}
-use Rattle.network.specs.laws.Bounds.{inflow_rises, losses_after_lem, depths_after}
+use Rattle.network.proofs.laws.Conserve.{balanced}
+use Rattle.network.proofs.laws.Bounds.{inflow_rises, losses_after_lem, depths_after}
 
 -- none of the conditions forbids the step
 pub record Permitted (N : Network) (s : State) (rate dt : ℕ) : Type 0 where

@@ -8,7 +8,7 @@ use Rattle.laws.specs.Integer.{plus, minus, parts, regroup, diff_neg}
 use Rattle.laws.specs.Lists.{ifℕ, ifℤ, sumℕ, range}
 use Rattle.laws.specs.Sums.{ifℕ_add, ifℤ_add, ifℤ_pos, ifℤ_diff, sumℕ_ext, sumℕ_add, sumℤ_ext, sumℤ_add, sumℤ_diff, range-below, get_or-map-range}
 use Rattle.network.specs.Network.{Face, Network, State, is_place, loss_at, flow, toward, inward, loss_in, loss_after, losses_after, from_last_column}
-use Rattle.network.specs.laws.Ends.{Inside, at_one, over_set, leaving, entering, outflow_parts}
+use Rattle.network.proofs.laws.Ends.{Inside, at_one, over_set, leaving, entering, outflow_parts}
 
 pub loss-after : (N : Network) (vs : List ℤ) (rate dt p : ℕ) → p < N.places → loss_at (losses_after N vs rate dt) p ≡ loss_after N vs rate dt p
 unfolding loss_at losses_after

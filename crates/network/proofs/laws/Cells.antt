@@ -17,8 +17,8 @@ use Rattle.laws.specs.Lists.{ifℕ, ifℤ, sumℕ, sumℤ}
 use Rattle.laws.specs.Sums.{ifℕ_zero, ifℤ_diff, ifℤ_less, sumℕ_ext, sumℕ_zero, sumℕ_add, sumℕ_append, sumℕ-map, sumℕ-flat_map, sumℤ_diff, sumℕ_pick, range_mem, range-below}
 use Rattle.network.specs.Network.{Face, is_place, outflow, toward, inward, conductance_sum}
 use Rattle.network.specs.Grid.{Grid, stored_columns, layers_of, upper_layers, place_count, place, across_face, down_face, screen_faces, faces_of, network_of}
-use Rattle.network.specs.laws.Ends.{ends, leaving, entering, outflow_parts}
-use Rattle.network.specs.laws.Places.{place_well, place_is, off_well, place-stored}
+use Rattle.network.proofs.laws.Ends.{ends, leaving, entering, outflow_parts}
+use Rattle.network.proofs.laws.Places.{place_well, place_is, off_well, place-stored}
 
 -- whether layer i has a face between columns j and j+1: with the well only if it is screened
 unfoldable pub joined : Grid → ℕ → ℕ → Bool

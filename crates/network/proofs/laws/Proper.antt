@@ -14,8 +14,8 @@ use Rattle.geometry.specs.Geometry.{from_table}
 use Rattle.network.specs.Network.{Face, storage_at}
 use Rattle.network.specs.Grid.{Grid, stored_columns, layers_of, upper_layers, place_count, place, one_per_place, across_rule, down_rule, across_face, down_face, screen_faces, faces_of, network_of}
 use Rattle.network.specs.Kept.{OnTable, OfUnconfined, OfTable, Proper}
-use Rattle.network.specs.laws.Cells.{joined}
-use Rattle.network.specs.laws.Places.{place-last, by_place, get_or_one}
+use Rattle.network.proofs.laws.Cells.{joined}
+use Rattle.network.proofs.laws.Places.{place-last, by_place, get_or_one}
 
 module _ (G : Grid) where
   abbrev layer_faces : ℕ → List Face

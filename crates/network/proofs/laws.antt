@@ -1,4 +1,4 @@
--- Laws of the definitions beside this folder: nothing in them is to be believed.
+-- Laws of the definitions in specs/: nothing in them is to be believed.
 pub mod Ends
 pub mod Conserve
 pub mod Water
