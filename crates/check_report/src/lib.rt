@@ -1,5 +1,5 @@
-// Prints the readings of a record as the reference model does (tests/README.md), for `check_scenarios`. Its functions promise nothing but to end:
-// what they print is held to the model's.
+// Prints the readings of a record as the reference model does (tests/README.md), for `check_scenarios`. Of what is printed its functions
+// promise nothing: it is held to the model's.
 #![tactic(auto)]
 
 ghost use Rattle.std.specs.Prelude.{◌≡◌, ◌≤◌, ◌<◌, length};
@@ -10,62 +10,65 @@ use read_head_loss::Loss;
 use read_limiting::Limiting;
 use readings::{Amount, Balance, Count, Place, Sameness};
 use record::Record;
+use std::io::{self, Write};
 
-fn print_amount(amount: Amount) {
+fn print_amount(out: &mut impl Write, amount: Amount) -> io::Result<()> {
     match amount {
-        Amount::Given(value) => print_integer(value),
-        Amount::Refused(number) => print_refusal(number),
+        Amount::Given(value) => print_integer(out, value),
+        Amount::Refused(number) => print_refusal(out, number),
     }
 }
 
 // ---- budget
 
-fn print_budget(rec: Record) {
-    print(b"budget");
+fn print_budget(out: &mut impl Write, rec: Record) -> io::Result<()> {
+    print(out, b"budget")?;
     let balance = read_budget::budget(rec);
     match balance {
-        Balance::Refused(number) => print_refusal(number),
+        Balance::Refused(number) => print_refusal(out, number)?,
         Balance::Given(totals) => {
-            print_number(totals.pumped);
-            print_integer(totals.well_loss);
-            print_integer(totals.cell_loss);
-            print_integer(totals.inflow);
-            print_integer(totals.mark);
+            print_number(out, totals.pumped)?;
+            print_integer(out, totals.well_loss)?;
+            print_integer(out, totals.cell_loss)?;
+            print_integer(out, totals.inflow)?;
+            print_integer(out, totals.mark)?;
         }
     }
-    print_line_end();
+    print_line_end(out)
 }
 
 // ---- drawdowns
 
-fn print_row_depths(rec: Record, layer: u64) {
+fn print_row_depths(out: &mut impl Write, rec: Record, layer: u64) -> io::Result<()> {
     let columns = rec.site.columns;
     let mut j: u64 = 1;
     while j < 50 {
         if columns <= j {
-            return;
+            return Ok(());
         }
-        print_amount(read_drawdown::drawdown(rec, Place::Cell(layer, j)));
+        print_amount(out, read_drawdown::drawdown(rec, Place::Cell(layer, j)))?;
         j += 1;
     }
+    Ok(())
 }
 
-fn print_depths(rec: Record) {
-    print(b"well");
-    print_amount(read_drawdown::drawdown(rec, Place::Well));
-    print_line_end();
+fn print_depths(out: &mut impl Write, rec: Record) -> io::Result<()> {
+    print(out, b"well")?;
+    print_amount(out, read_drawdown::drawdown(rec, Place::Well))?;
+    print_line_end(out)?;
     let layers = rec.site.layers;
     let mut i: u64 = 1;
     while i <= 20 {
         if layers < i {
-            return;
+            return Ok(());
         }
-        print(b"layer");
-        print_number(i);
-        print_row_depths(rec, i);
-        print_line_end();
+        print(out, b"layer")?;
+        print_number(out, i)?;
+        print_row_depths(out, rec, i)?;
+        print_line_end(out)?;
         i += 1;
     }
+    Ok(())
 }
 
 // ---- storage losses
@@ -125,42 +128,42 @@ fn set_bytes(set: u64) -> [u8; 1001]
 }
 
 // The storage loss of the first n bytes of a set.
-fn print_loss(rec: Record, set: u64, n: usize)
+fn print_loss(out: &mut impl Write, rec: Record, set: u64, n: usize) -> io::Result<()>
     requires { n ≤ 1001 }
 {
     let bytes = set_bytes(set);
-    print_amount(read_budget::storage_loss(rec, &bytes[..n]));
-    print_line_end();
+    print_amount(out, read_budget::storage_loss(rec, &bytes[..n]))?;
+    print_line_end(out)
 }
 
-fn print_set(rec: Record, set: u64) {
-    print(b"set");
-    print_number(set);
-    print_loss(rec, set, place_count(rec));
+fn print_set(out: &mut impl Write, rec: Record, set: u64) -> io::Result<()> {
+    print(out, b"set")?;
+    print_number(out, set)?;
+    print_loss(out, rec, set, place_count(rec))
 }
 
-fn print_set_length(rec: Record, n: usize)
+fn print_set_length(out: &mut impl Write, rec: Record, n: usize) -> io::Result<()>
     requires { n ≤ 1001 }
 {
-    print(b"set length");
-    print_number(n as u64);
-    print_loss(rec, 1, n);
+    print(out, b"set length")?;
+    print_number(out, n as u64)?;
+    print_loss(out, rec, 1, n)
 }
 
-fn print_sets(rec: Record) {
-    print_set(rec, 0);
-    print_set(rec, 1);
-    print_set(rec, 2);
-    print_set(rec, 3);
-    print_set(rec, 4);
-    print_set(rec, 5);
+fn print_sets(out: &mut impl Write, rec: Record) -> io::Result<()> {
+    print_set(out, rec, 0)?;
+    print_set(out, rec, 1)?;
+    print_set(out, rec, 2)?;
+    print_set(out, rec, 3)?;
+    print_set(out, rec, 4)?;
+    print_set(out, rec, 5)?;
     let n = place_count(rec);
     if n == 0 {
-        return;
+        return Ok(());
     }
-    print_set_length(rec, 0);
-    print_set_length(rec, n - 1);
-    print_set_length(rec, n + 1);
+    print_set_length(out, rec, 0)?;
+    print_set_length(out, rec, n - 1)?;
+    print_set_length(out, rec, n + 1)
 }
 
 // ---- deep cells
@@ -239,20 +242,21 @@ fn slots_left(list: &[u64; 1001], n: usize) -> u64 {
 }
 
 // The first n slots of a list, in their order.
-fn print_codes(list: &[u64; 1001], n: u64) {
+fn print_codes(out: &mut impl Write, list: &[u64; 1001], n: u64) -> io::Result<()> {
     let mut k: usize = 0;
     while k < 1001 {
         if (k as u64) < n {
-            print_number(list[k]);
+            print_number(out, list[k])?;
         }
         k += 1;
     }
+    Ok(())
 }
 
-fn print_count(answer: Count) {
+fn print_count(out: &mut impl Write, answer: Count) -> io::Result<()> {
     match answer {
-        Count::Refused(number) => print_refusal(number),
-        Count::Given(count) => print_number(count),
+        Count::Refused(number) => print_refusal(out, number),
+        Count::Given(count) => print_number(out, count),
     }
 }
 
@@ -264,33 +268,40 @@ fn count_in(answer: Count) -> u64 {
 }
 
 // The answer with a list of n slots, how many of them are as they were, and those that are written.
-fn print_listed(word: &[u8], rec: Record, depth: u64, n: usize) -> u64
+fn print_listed(
+    out: &mut impl Write,
+    word: &[u8],
+    rec: Record,
+    depth: u64,
+    n: usize,
+) -> io::Result<u64>
     requires { n ≤ 1001 }
 {
     let deep = list_deep(rec, depth, n);
     let answer = deep.answer;
     let count = count_in(answer);
-    print(word);
-    print_number(depth);
-    print_count(answer);
+    print(out, word)?;
+    print_number(out, depth)?;
+    print_count(out, answer)?;
     let list = deep.list;
-    print_number(slots_left(&list, n));
-    print_codes(&list, count);
-    print_line_end();
-    count
+    print_number(out, slots_left(&list, n))?;
+    print_codes(out, &list, count)?;
+    print_line_end(out)?;
+    Ok(count)
 }
 
 // What a list with a slot for each place gives, one exactly long enough, and one a slot too short.
-fn print_deep(rec: Record, depth: u64) {
-    let count = print_listed(b"deep", rec, depth, place_count(rec));
+fn print_deep(out: &mut impl Write, rec: Record, depth: u64) -> io::Result<()> {
+    let count = print_listed(out, b"deep", rec, depth, place_count(rec))?;
     if count == 0 {
-        return;
+        return Ok(());
     }
     if 1001 < count {
-        return;
+        return Ok(());
     }
-    print_listed(b"deep exact", rec, depth, count as usize);
-    print_listed(b"deep short", rec, depth, count as usize - 1);
+    print_listed(out, b"deep exact", rec, depth, count as usize)?;
+    print_listed(out, b"deep short", rec, depth, count as usize - 1)?;
+    Ok(())
 }
 
 // D of the cell in the middle of the list of all that are drawn down; 0 where there is none.
@@ -316,39 +327,39 @@ fn less_one(depth: u64) -> u64 {
     depth - 1
 }
 
-fn print_deep_cells(rec: Record) {
+fn print_deep_cells(out: &mut impl Write, rec: Record) -> io::Result<()> {
     let most = deepest(rec);
     let half = middle(rec);
-    print_deep(rec, 0);
-    print_deep(rec, most / 4);
-    print_deep(rec, most / 2);
-    print_deep(rec, less_one(half));
-    print_deep(rec, half);
-    print_deep(rec, less_one(most));
-    print_deep(rec, most);
-    print_deep(rec, 1000000000);
-    print_deep(rec, 18446744073709551615);
+    print_deep(out, rec, 0)?;
+    print_deep(out, rec, most / 4)?;
+    print_deep(out, rec, most / 2)?;
+    print_deep(out, rec, less_one(half))?;
+    print_deep(out, rec, half)?;
+    print_deep(out, rec, less_one(most))?;
+    print_deep(out, rec, most)?;
+    print_deep(out, rec, 1000000000)?;
+    print_deep(out, rec, 18446744073709551615)
 }
 
 // ---- sameness
 
-fn print_sameness(sameness: Sameness) {
+fn print_sameness(out: &mut impl Write, sameness: Sameness) -> io::Result<()> {
     match sameness {
-        Sameness::Refused(number) => print_refusal(number),
-        Sameness::Given(same) => print_number(if same { 1 } else { 0 }),
+        Sameness::Refused(number) => print_refusal(out, number),
+        Sameness::Given(same) => print_number(out, if same { 1 } else { 0 }),
     }
 }
 
 // What same answers of two records, and the other way round.
-pub fn print_both_ways(one: Record, other: Record) {
-    print_sameness(read_same::same(one, other));
-    print_sameness(read_same::same(other, one));
+pub fn print_both_ways(out: &mut impl Write, one: Record, other: Record) -> io::Result<()> {
+    print_sameness(out, read_same::same(one, other))?;
+    print_sameness(out, read_same::same(other, one))
 }
 
-fn print_same(rec: Record, other: Record) {
-    print(b"same");
-    print_both_ways(rec, other);
-    print_line_end();
+fn print_same(out: &mut impl Write, rec: Record, other: Record) -> io::Result<()> {
+    print(out, b"same")?;
+    print_both_ways(out, rec, other)?;
+    print_line_end(out)
 }
 
 // ---- flows for a step not taken
@@ -374,33 +385,43 @@ fn is_screened(rec: Record, layer: u64) -> bool {
     site.screened[layer as usize - 1] == 1
 }
 
-fn print_row_head(word: &[u8], dt: u64, layer: u64) {
-    print(word);
-    print_number(dt);
-    print_number(layer);
+fn print_row_head(out: &mut impl Write, word: &[u8], dt: u64, layer: u64) -> io::Result<()> {
+    print(out, word)?;
+    print_number(out, dt)?;
+    print_number(out, layer)
 }
 
-fn print_inward(rec: Record, dt: u64) {
+fn print_inward(out: &mut impl Write, rec: Record, dt: u64) -> io::Result<()> {
     let mut i: u64 = 1;
     while i <= 20 {
         if is_screened(rec, i) {
-            print_row_head(b"inward", dt, i);
-            print_amount(read_flow::face_flow(rec, Place::Cell(i, 1), Place::Well, dt));
-            print_line_end();
+            print_row_head(out, b"inward", dt, i)?;
+            print_amount(
+                out,
+                read_flow::face_flow(rec, Place::Cell(i, 1), Place::Well, dt),
+            )?;
+            print_line_end(out)?;
         }
         i += 1;
     }
+    Ok(())
 }
 
 // From each stored cell of a layer to the next column, or, where `below` is 1, to the layer below; the first refusal ends the row.
-fn print_row_flows(rec: Record, layer: u64, below: u64, dt: u64)
+fn print_row_flows(
+    out: &mut impl Write,
+    rec: Record,
+    layer: u64,
+    below: u64,
+    dt: u64,
+) -> io::Result<()>
     requires { (layer ≤ 20) × (below ≤ 1) }
 {
     let columns = rec.site.columns;
     let mut j: u64 = 1;
     while j < 50 {
         if columns <= j {
-            return;
+            return Ok(());
         }
         let amount = read_flow::face_flow(
             rec,
@@ -408,29 +429,31 @@ fn print_row_flows(rec: Record, layer: u64, below: u64, dt: u64)
             Place::Cell(layer + below, j + 1 - below),
             dt,
         );
-        print_amount(amount);
+        print_amount(out, amount)?;
         if !is_given(amount) {
-            return;
+            return Ok(());
         }
         j += 1;
     }
+    Ok(())
 }
 
 // The flows of each layer, across or, where `below` is 1, down to the layer below.
-fn print_rows(rec: Record, word: &[u8], below: u64, dt: u64)
+fn print_rows(out: &mut impl Write, rec: Record, word: &[u8], below: u64, dt: u64) -> io::Result<()>
     requires { below ≤ 1 }
 {
     let layers = rec.site.layers;
     let mut i: u64 = 1;
     while i <= 20 {
         if layers < i + below {
-            return;
+            return Ok(());
         }
-        print_row_head(word, dt, i);
-        print_row_flows(rec, i, below, dt);
-        print_line_end();
+        print_row_head(out, word, dt, i)?;
+        print_row_flows(out, rec, i, below, dt)?;
+        print_line_end(out)?;
         i += 1;
     }
+    Ok(())
 }
 
 // The topmost screened layer, or 0.
@@ -445,45 +468,48 @@ fn first_screened(rec: Record) -> u64 {
     0
 }
 
-fn print_length(rec: Record, dt: u64) {
-    print(b"length");
-    print_number(dt);
-    print_amount(read_flow::face_flow(rec, Place::Cell(first_screened(rec), 1), Place::Well, dt));
-    print_line_end();
+fn print_length(out: &mut impl Write, rec: Record, dt: u64) -> io::Result<()> {
+    print(out, b"length")?;
+    print_number(out, dt)?;
+    print_amount(
+        out,
+        read_flow::face_flow(rec, Place::Cell(first_screened(rec), 1), Place::Well, dt),
+    )?;
+    print_line_end(out)
 }
 
 // ---- what would hold back a step not taken
 
 // Layer and column, 0 and 0 for the well.
-fn print_place(place: Place) {
+fn print_place(out: &mut impl Write, place: Place) -> io::Result<()> {
     match place {
         Place::Well => {
-            print_number(0);
-            print_number(0);
+            print_number(out, 0)?;
+            print_number(out, 0)
         }
         Place::Cell(layer, column) => {
-            print_number(layer);
-            print_number(column);
+            print_number(out, layer)?;
+            print_number(out, column)
         }
     }
 }
 
 // The number of a refusal, and the place that brings it about.
-fn print_held(number: u64, place: Place) {
-    print_number(number);
-    print_place(place);
+fn print_held(out: &mut impl Write, number: u64, place: Place) -> io::Result<()> {
+    print_number(out, number)?;
+    print_place(out, place)
 }
 
-fn print_limit(limit: Limiting) {
+fn print_limit(out: &mut impl Write, limit: Limiting) -> io::Result<()> {
     match limit {
         Limiting::TooLong(place, longest) => {
-            print_held(8, place);
-            print_number(longest);
+            print_held(out, 8, place)?;
+            print_number(out, longest)
         }
-        Limiting::PastIntake(place) => print_held(10, place),
-        Limiting::PastBottom(place) => print_held(11, place),
-        Limiting::Nothing => print(b" nothing"),
-        Limiting::Refused(number) => print_refusal(number),
+        Limiting::PastIntake(place) => print_held(out, 10, place),
+        Limiting::PastBottom(place) => print_held(out, 11, place),
+        Limiting::Nothing => print(out, b" nothing"),
+        Limiting::Refused(number) => print_refusal(out, number),
     }
 }
 
@@ -496,172 +522,197 @@ fn longest_in(limit: Limiting) -> u64 {
 }
 
 // What would hold back a step of a rate and a length; gives the longest step that 8 allows, or the greatest length.
-pub fn print_limiting(rec: Record, rate: u64, dt: u64) -> u64 {
-    print(b"limiting");
-    print_number(rate);
-    print_number(dt);
+pub fn print_limiting(out: &mut impl Write, rec: Record, rate: u64, dt: u64) -> io::Result<u64> {
+    print(out, b"limiting")?;
+    print_number(out, rate)?;
+    print_number(out, dt)?;
     let limit = read_limiting::limiting_place(rec, rate, dt);
-    print_limit(limit);
-    print_line_end();
-    longest_in(limit)
+    print_limit(out, limit)?;
+    print_line_end(out)?;
+    Ok(longest_in(limit))
 }
 
 // Where 8 is what holds the step of the greatest length back: a step of 1 µs more than the longest that 8 allows, the longest, and that at the
 // greatest rate.
-fn print_longest(rec: Record, rate: u64, longest: u64) {
+fn print_longest(out: &mut impl Write, rec: Record, rate: u64, longest: u64) -> io::Result<()> {
     if LENGTH_LIMIT <= longest {
-        return;
+        return Ok(());
     }
-    print_limiting(rec, rate, longest + 1);
-    print_limiting(rec, rate, longest);
-    print_limiting(rec, RATE_LIMIT, longest);
+    print_limiting(out, rec, rate, longest + 1)?;
+    print_limiting(out, rec, rate, longest)?;
+    print_limiting(out, rec, RATE_LIMIT, longest)?;
+    Ok(())
 }
 
-fn print_limits(rec: Record, rate: u64, dt: u64) {
-    print_limiting(rec, rate, dt);
-    let longest = print_limiting(rec, rate, LENGTH_LIMIT);
-    print_longest(rec, rate, longest);
-    print_limiting(rec, RATE_LIMIT, dt);
+fn print_limits(out: &mut impl Write, rec: Record, rate: u64, dt: u64) -> io::Result<()> {
+    print_limiting(out, rec, rate, dt)?;
+    let longest = print_limiting(out, rec, rate, LENGTH_LIMIT)?;
+    print_longest(out, rec, rate, longest)?;
+    print_limiting(out, rec, RATE_LIMIT, dt)?;
+    Ok(())
 }
 
 // ---- everything
 
 // Every reading of a record; those of a step not taken for a rate and a length.
-pub fn print_readings(rec: Record, before: Record, start: Record, rate: u64, dt: u64) {
-    print(b"time");
-    print_number(rec.time);
-    print_line_end();
-    print_budget(rec);
-    print(b"checksum");
-    print_number(check_hash::checksum_of(rec));
-    print_line_end();
-    print_depths(rec);
-    print_sets(rec);
-    print_deep_cells(rec);
-    print_same(rec, rec);
-    print_same(rec, before);
-    print_same(rec, start);
-    print_inward(rec, dt);
-    print_rows(rec, b"across", 0, dt);
-    print_rows(rec, b"down", 1, dt);
-    print_length(rec, 0);
-    print_length(rec, 1);
-    print_length(rec, dt);
-    print_length(rec, 1000000000);
-    print_length(rec, 1000000001);
-    print_limits(rec, rate, dt);
+pub fn print_readings(
+    out: &mut impl Write,
+    rec: Record,
+    before: Record,
+    start: Record,
+    rate: u64,
+    dt: u64,
+) -> io::Result<()> {
+    print(out, b"time")?;
+    print_number(out, rec.time)?;
+    print_line_end(out)?;
+    print_budget(out, rec)?;
+    print(out, b"checksum")?;
+    print_number(out, check_hash::checksum_of(rec))?;
+    print_line_end(out)?;
+    print_depths(out, rec)?;
+    print_sets(out, rec)?;
+    print_deep_cells(out, rec)?;
+    print_same(out, rec, rec)?;
+    print_same(out, rec, before)?;
+    print_same(out, rec, start)?;
+    print_inward(out, rec, dt)?;
+    print_rows(out, rec, b"across", 0, dt)?;
+    print_rows(out, rec, b"down", 1, dt)?;
+    print_length(out, rec, 0)?;
+    print_length(out, rec, 1)?;
+    print_length(out, rec, dt)?;
+    print_length(out, rec, 1000000000)?;
+    print_length(out, rec, 1000000001)?;
+    print_limits(out, rec, rate, dt)
 }
 
 // ---- readings that 12 refuses, before any length is judged, and what would hold back steps that 7 refuses
 
-fn print_no_place(rec: Record, layer: u64, column: u64) {
-    print(b"no place");
-    print_amount(read_drawdown::drawdown(rec, Place::Cell(layer, column)));
-    print_line_end();
+fn print_no_place(out: &mut impl Write, rec: Record, layer: u64, column: u64) -> io::Result<()> {
+    print(out, b"no place")?;
+    print_amount(
+        out,
+        read_drawdown::drawdown(rec, Place::Cell(layer, column)),
+    )?;
+    print_line_end(out)
 }
 
-fn print_no_face(rec: Record, from: Place, to: Place) {
-    print(b"no face");
-    print_amount(read_flow::face_flow(rec, from, to, 0));
-    print_line_end();
+fn print_no_face(out: &mut impl Write, rec: Record, from: Place, to: Place) -> io::Result<()> {
+    print(out, b"no face")?;
+    print_amount(out, read_flow::face_flow(rec, from, to, 0))?;
+    print_line_end(out)
 }
 
-fn print_no_places(rec: Record, layers: u64, columns: u64)
+fn print_no_places(out: &mut impl Write, rec: Record, layers: u64, columns: u64) -> io::Result<()>
     requires { (layers ≤ 20) × (columns ≤ 50) }
 {
-    print_no_place(rec, 0, 1);
-    print_no_place(rec, 1, 0);
-    print_no_place(rec, 1, columns);
-    print_no_place(rec, layers, columns + 1);
-    print_no_place(rec, layers + 1, 1);
-    print_no_place(rec, 18446744073709551615, 18446744073709551615);
+    print_no_place(out, rec, 0, 1)?;
+    print_no_place(out, rec, 1, 0)?;
+    print_no_place(out, rec, 1, columns)?;
+    print_no_place(out, rec, layers, columns + 1)?;
+    print_no_place(out, rec, layers + 1, 1)?;
+    print_no_place(out, rec, 18446744073709551615, 18446744073709551615)
 }
 
-fn print_no_faces(rec: Record, layers: u64, columns: u64)
+fn print_no_faces(out: &mut impl Write, rec: Record, layers: u64, columns: u64) -> io::Result<()>
     requires { (layers ≤ 20) × (columns ≤ 50) }
 {
-    print_no_face(rec, Place::Well, Place::Well);
-    print_no_face(rec, Place::Well, Place::Cell(1, 1));
-    print_no_face(rec, Place::Cell(layers, 2), Place::Well);
-    print_no_face(rec, Place::Cell(1, 1), Place::Cell(1, 1));
-    print_no_face(rec, Place::Cell(1, 1), Place::Cell(2, 2));
-    print_no_face(rec, Place::Cell(1, columns), Place::Cell(2, columns));
-    print_no_face(rec, Place::Cell(1, columns), Place::Cell(1, columns + 1));
-    print_no_face(rec, Place::Cell(layers, 1), Place::Cell(layers + 1, 1));
-    print_no_face(rec, Place::Cell(0, 1), Place::Cell(1, 1));
-    print_no_face(rec, Place::Cell(1, 18446744073709551615), Place::Cell(1, 0));
+    print_no_face(out, rec, Place::Well, Place::Well)?;
+    print_no_face(out, rec, Place::Well, Place::Cell(1, 1))?;
+    print_no_face(out, rec, Place::Cell(layers, 2), Place::Well)?;
+    print_no_face(out, rec, Place::Cell(1, 1), Place::Cell(1, 1))?;
+    print_no_face(out, rec, Place::Cell(1, 1), Place::Cell(2, 2))?;
+    print_no_face(out, rec, Place::Cell(1, columns), Place::Cell(2, columns))?;
+    print_no_face(
+        out,
+        rec,
+        Place::Cell(1, columns),
+        Place::Cell(1, columns + 1),
+    )?;
+    print_no_face(out, rec, Place::Cell(layers, 1), Place::Cell(layers + 1, 1))?;
+    print_no_face(out, rec, Place::Cell(0, 1), Place::Cell(1, 1))?;
+    print_no_face(
+        out,
+        rec,
+        Place::Cell(1, 18446744073709551615),
+        Place::Cell(1, 0),
+    )
 }
 
-fn print_no_limits(rec: Record) {
-    print_limiting(rec, 10000001, 1);
-    print_limiting(rec, 0, 0);
-    print_limiting(rec, 0, 1000000001);
-    print_limiting(rec, 18446744073709551615, 18446744073709551615);
+fn print_no_limits(out: &mut impl Write, rec: Record) -> io::Result<()> {
+    print_limiting(out, rec, 10000001, 1)?;
+    print_limiting(out, rec, 0, 0)?;
+    print_limiting(out, rec, 0, 1000000001)?;
+    print_limiting(out, rec, 18446744073709551615, 18446744073709551615)?;
+    Ok(())
 }
 
-pub fn print_refused_readings(rec: Record) {
+pub fn print_refused_readings(out: &mut impl Write, rec: Record) -> io::Result<()> {
     let layers = rec.site.layers;
     let columns = rec.site.columns;
     if 20 < layers {
-        return;
+        return Ok(());
     }
     if 50 < columns {
-        return;
+        return Ok(());
     }
-    print_no_places(rec, layers, columns);
-    print_no_faces(rec, layers, columns);
-    print_no_limits(rec);
+    print_no_places(out, rec, layers, columns)?;
+    print_no_faces(out, rec, layers, columns)?;
+    print_no_limits(out, rec)
 }
 
 // ---- head losses
 
 // A float as its 64 bits.
-fn print_float(x: f64) {
+fn print_float(out: &mut impl Write, x: f64) -> io::Result<()> {
     if x == x {
-        print_number(f64::to_bits(x));
+        print_number(out, f64::to_bits(x))?;
     } else {
-        print(b" nan");
+        print(out, b" nan")?;
     }
+    Ok(())
 }
 
-fn print_loss_figures(rec: Record, layer: u64, dt: u64) {
+fn print_loss_figures(out: &mut impl Write, rec: Record, layer: u64, dt: u64) -> io::Result<()> {
     let loss = read_head_loss::head_loss(rec, layer, dt);
     match loss {
-        Loss::Refused(number) => print_refusal(number),
+        Loss::Refused(number) => print_refusal(out, number)?,
         Loss::Given(losses) => {
-            print_float(losses.inflow);
-            print_float(losses.screen_loss);
-            print_float(losses.pipe_loss);
+            print_float(out, losses.inflow)?;
+            print_float(out, losses.screen_loss)?;
+            print_float(out, losses.pipe_loss)?;
         }
     }
-    print_line_end();
+    print_line_end(out)
 }
 
 // The head losses of every screened layer for a length not taken.
-pub fn print_heads(rec: Record, dt: u64) {
+pub fn print_heads(out: &mut impl Write, rec: Record, dt: u64) -> io::Result<()> {
     let mut i: u64 = 1;
     while i <= 20 {
         if is_screened(rec, i) {
-            print_row_head(b"head", dt, i);
-            print_loss_figures(rec, i, dt);
+            print_row_head(out, b"head", dt, i)?;
+            print_loss_figures(out, rec, i, dt)?;
         }
         i += 1;
     }
+    Ok(())
 }
 
-fn print_no_screen(rec: Record, layer: u64) {
-    print(b"no screen");
-    print_loss_figures(rec, layer, 0);
+fn print_no_screen(out: &mut impl Write, rec: Record, layer: u64) -> io::Result<()> {
+    print(out, b"no screen")?;
+    print_loss_figures(out, rec, layer, 0)
 }
 
 // Layers that 12 refuses, before any length is judged.
-pub fn print_refused_heads(rec: Record) {
+pub fn print_refused_heads(out: &mut impl Write, rec: Record) -> io::Result<()> {
     let layers = rec.site.layers;
     if 20 < layers {
-        return;
+        return Ok(());
     }
-    print_no_screen(rec, 0);
-    print_no_screen(rec, 1);
-    print_no_screen(rec, layers + 1);
-    print_no_screen(rec, 18446744073709551615);
+    print_no_screen(out, rec, 0)?;
+    print_no_screen(out, rec, 1)?;
+    print_no_screen(out, rec, layers + 1)?;
+    print_no_screen(out, rec, 18446744073709551615)
 }

@@ -21,7 +21,7 @@ use Rattle.record.specs.declared.Repeated.{Repeated}
 use Rattle.validity.specs.Validity.{valid}
 use Rattle.control_choice.specs.declared.Choice.{Choice}
 use Rattle.control_choice.specs.Choice.{is_taken, rising, list_holds, choice_refusal, passing, choice_of}
-use Rattle.control_choice.specs.laws.Highest.{Fits, fits_choice, one_fits, later_above}
+use Rattle.control_choice.proofs.laws.Highest.{Fits, fits_choice, one_fits, later_above}
 
 -- ---- a trial
 

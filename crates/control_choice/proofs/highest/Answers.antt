@@ -2,7 +2,7 @@
 use Rattle.std.proofs.Common.{◌≡◌, sym, ◌∙◌, Bool, true, false, ℕ, ◌-◌, arith, length, get_or}
 use Rattle.record.specs.declared.Record.{Record}
 use Rattle.control_choice.specs.Choice.{all_accepted}
-use Rattle.control_choice.specs.laws.Row.{repeat_accepted}
+use Rattle.control_choice.proofs.laws.Row.{repeat_accepted}
 use Rattle.control_choice.proofs.Answers.{one_more, found, not_found}
 use Rattle.control_choice.proofs.highest.Goals as goal
 

@@ -1,5 +1,5 @@
 -- The choice is the highest rate at which all steps are accepted, whatever is handed in.
-use Rattle.control_choice.specs.laws.Theorem.{chooses}
+use Rattle.control_choice.proofs.laws.Theorem.{chooses}
 use Rattle.control_choice.proofs.highest_accepted.Goals as goal
 
 pub returns : goal.returns

@@ -4,9 +4,9 @@ use Rattle.record.specs.declared.Record.{Record}
 use Rattle.step.specs.Repeat.{repeat_of}
 use Rattle.validity.specs.Validity.{valid}
 use Rattle.control_choice.specs.Choice.{is_taken}
-use Rattle.control_choice.specs.laws.Row.{repeat_judges}
-use Rattle.control_choice.specs.laws.Theorem.{holds}
-use Rattle.control_choice.specs.laws.Highest.{above_rising}
+use Rattle.control_choice.proofs.laws.Row.{repeat_judges}
+use Rattle.control_choice.proofs.laws.Theorem.{holds}
+use Rattle.control_choice.proofs.laws.Highest.{above_rising}
 use Rattle.control_choice.proofs.Answers.{answer_14, answer_20, answer_choice}
 use Rattle.control_choice.proofs.judged.Goals as goal
 

@@ -15,8 +15,8 @@ use Rattle.validity.specs.Validity.{valid}
 use Rattle.control_choice.specs.declared.Choice.{Choice}
 use Rattle.control_choice.specs.Choice.{all_accepted, rising, list_holds, choice_refusal, passing, choice_of, chosen_of}
 use Rattle.control_choice.specs.Chooses.{Holds, Says, Chooses}
-use Rattle.control_choice.specs.laws.Row.{all_accepted_lem, accepted_all, meets_refused, refused_meets, as_repeat}
-use Rattle.control_choice.specs.laws.Highest.{Fits, fits_choice, one_fits, later_above, above_rising}
+use Rattle.control_choice.proofs.laws.Row.{all_accepted_lem, accepted_all, meets_refused, refused_meets, as_repeat}
+use Rattle.control_choice.proofs.laws.Highest.{Fits, fits_choice, one_fits, later_above, above_rising}
 
 -- ---- 20: the test and the claim
 
