@@ -6,8 +6,8 @@ ghost use Rattle.std.specs.Prelude.{◌*◌, ◌<◌, ◌≤◌};
 ghost use Rattle.limits.specs.Limits.{midsection_factor};
 
 use check_print::{print_line_end, print_number};
-use libc::STDOUT_FILENO;
 use limits::MIDSECTION_FACTOR;
+use std::io::{self, BufWriter, Write};
 
 // The pairs farthest from the true logarithm, p before q, as the reference model finds them (model worst 100): a hundred with p up to 3q, then a
 // hundred with p above 3q, each the worst first.
@@ -51,69 +51,79 @@ const WORST: [u64; 400] = [
     2680217, 303540, 3532877, 400167, 1962095, 222243,
 ];
 
-fn print_pair(p: u64, q: u64)
+fn print_pair(out: &mut impl Write, p: u64, q: u64) -> io::Result<()>
     requires { (q < p) × (p ≤ midsection_factor * q) × (p ≤ 4000000) }
 {
-    io::print_decimal(STDOUT_FILENO, p);
-    print_number(q);
-    print_number(geometry::logarithm(p, q));
-    print_line_end();
+    write!(out, "{p}")?;
+    print_number(out, q)?;
+    print_number(out, geometry::logarithm(p, q))?;
+    print_line_end(out)
 }
 
 // Pairs of q, p from `from` + 1 to 3 times `from`.
-fn print_span(from: u64, q: u64)
+fn print_span(out: &mut impl Write, from: u64, q: u64) -> io::Result<()>
     requires { (20 ≤ q) × (q ≤ from) × (from ≤ 3 * q) × (q ≤ 4000000) }
 {
     let mut p = from + 1;
     while p < 3 * from {
         if p <= 4000000 {
-            print_pair(p, q);
+            print_pair(out, p, q)?;
         }
         p += from / 20 + 1;
     }
     if 3 * from <= 4000000 {
-        print_pair(3 * from, q);
+        print_pair(out, 3 * from, q)?;
     }
+    Ok(())
 }
 
 // Ratios from the smallest, (q + 1) / q, to 3, and from the next, (3q + 1) / q, to the largest, 9.
-fn print_ratios(q: u64)
+fn print_ratios(out: &mut impl Write, q: u64) -> io::Result<()>
     requires { (20 ≤ q) × (q ≤ 4000000) }
 {
-    print_span(q, q);
-    print_span(3 * q, q);
+    print_span(out, q, q)?;
+    print_span(out, 3 * q, q)
 }
 
 // A pair that rule 4 allows, and no other.
-fn print_allowed(p: u64, q: u64) {
+fn print_allowed(out: &mut impl Write, p: u64, q: u64) -> io::Result<()> {
     if p > 4000000 {
-        return;
+        return Ok(());
     }
     if q >= p {
-        return;
+        return Ok(());
     }
     if p <= MIDSECTION_FACTOR * q {
-        print_pair(p, q);
+        print_pair(out, p, q)?;
     }
+    Ok(())
 }
 
-fn print_worst() {
+fn print_worst(out: &mut impl Write) -> io::Result<()> {
     let mut k = 0;
     while k < 399 {
-        print_allowed(WORST[k], WORST[k + 1]);
+        print_allowed(out, WORST[k], WORST[k + 1])?;
         k += 2;
     }
+    Ok(())
 }
 
-fn main() {
+// Every pair.
+fn print_all(out: &mut impl Write) -> io::Result<()> {
     // twice the smallest well radius is 20, twice the largest column radius 4,000,000
     let mut q = 20;
     while q < 4000000 {
-        print_ratios(q);
+        print_ratios(out, q)?;
         q += q / 7 + 1;
     }
-    print_ratios(444444);
-    print_ratios(1333333);
-    print_ratios(3999999);
-    print_worst();
+    print_ratios(out, 444444)?;
+    print_ratios(out, 1333333)?;
+    print_ratios(out, 3999999)?;
+    print_worst(out)
+}
+
+fn main(rt: HostRuntime) -> io::Result<()> {
+    let mut out = BufWriter::new(rt.alloc(), io::writer(&rt))?;
+    print_all(&mut out)?;
+    out.flush()
 }

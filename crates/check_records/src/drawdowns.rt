@@ -3,6 +3,7 @@
 use check_print::{print_number, print_refusal};
 use readings::{Amount, Place};
 use record::Record;
+use std::io::{self, Write};
 
 fn equal_amounts(one: Amount, other: Amount) -> bool {
     match one {
@@ -37,16 +38,16 @@ fn refusal(rec: Record) -> u64 {
     }
 }
 
-pub fn print_equal(one: Record, other: Record) {
+pub fn print_equal(out: &mut impl Write, one: Record, other: Record) -> io::Result<()> {
     let first = refusal(one);
     if first != 0 {
-        print_refusal(first);
-        return;
+        print_refusal(out, first)?;
+        return Ok(());
     }
     let second = refusal(other);
     if second != 0 {
-        print_refusal(second);
-        return;
+        print_refusal(out, second)?;
+        return Ok(());
     }
-    print_number(if equal(one, other) { 1 } else { 0 });
+    print_number(out, if equal(one, other) { 1 } else { 0 })
 }

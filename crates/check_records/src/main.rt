@@ -9,6 +9,9 @@ use limits::LENGTH_LIMIT;
 use record::{Outcome, Record};
 use scenario::Pumping;
 use site::Site;
+use std::env;
+use std::io::{self, BufWriter, Write};
+use std::rt::Files;
 
 mod changes;
 mod drawdowns;
@@ -20,25 +23,26 @@ const LENGTH: u64 = 500000;
 
 // The outcome of the step, with the checksum of the record that it gives where 14 does not refuse it, and what holds it back, and one of the
 // greatest length.
-fn print_step(rec: Record) {
+fn print_step(out: &mut impl Write, rec: Record) -> io::Result<()> {
     let answer = step::step(rec, RATE, LENGTH);
     let outcome = answer.outcome;
     let after = answer.record;
     match outcome {
         Outcome::Taken => {
-            print(b" taken");
-            print_number(check_hash::checksum_of(after));
+            print(out, b" taken")?;
+            print_number(out, check_hash::checksum_of(after))?;
         }
         Outcome::Refused(number) => {
-            print_refusal(number);
+            print_refusal(out, number)?;
             if number != 14 {
-                print_number(check_hash::checksum_of(after));
+                print_number(out, check_hash::checksum_of(after))?;
             }
         }
     }
-    print_line_end();
-    check_report::print_limiting(rec, RATE, LENGTH);
-    check_report::print_limiting(rec, RATE, LENGTH_LIMIT);
+    print_line_end(out)?;
+    check_report::print_limiting(out, rec, RATE, LENGTH)?;
+    check_report::print_limiting(out, rec, RATE, LENGTH_LIMIT)?;
+    Ok(())
 }
 
 // The changes to the scenario's numbers, by group and number.
@@ -84,52 +88,65 @@ fn changed(before: Record, group: u64, case: u64) -> Record {
 }
 
 // What same answers of the record with a change and of two others, both ways; in the last group also whether their drawdowns are equal.
-fn print_same(unchanged: Record, last: Record, rec: Record, group: u64) {
-    print(b"same");
-    check_report::print_both_ways(unchanged, rec);
-    check_report::print_both_ways(last, rec);
-    print_line_end();
+fn print_same(
+    out: &mut impl Write,
+    unchanged: Record,
+    last: Record,
+    rec: Record,
+    group: u64,
+) -> io::Result<()> {
+    print(out, b"same")?;
+    check_report::print_both_ways(out, unchanged, rec)?;
+    check_report::print_both_ways(out, last, rec)?;
+    print_line_end(out)?;
     if group != 15 {
-        return;
+        return Ok(());
     }
-    print(b"drawdowns");
-    drawdowns::print_equal(unchanged, rec);
-    drawdowns::print_equal(last, rec);
-    print_line_end();
+    print(out, b"drawdowns")?;
+    drawdowns::print_equal(out, unchanged, rec)?;
+    drawdowns::print_equal(out, last, rec)?;
+    print_line_end(out)
 }
 
-fn print_group(before: Record, name: &[u8], group: u64, cases: u64) {
+fn print_group(
+    out: &mut impl Write,
+    before: Record,
+    name: &[u8],
+    group: u64,
+    cases: u64,
+) -> io::Result<()> {
     let mut last = before;
     let mut case: u64 = 0;
     while case < cases {
         case += 1;
-        print(name);
-        print_number(case);
+        print(out, name)?;
+        print_number(out, case)?;
         let rec = changed(before, group, case);
-        print_step(rec);
-        print_same(before, last, rec, group);
+        print_step(out, rec)?;
+        print_same(out, before, last, rec, group)?;
         last = rec;
     }
+    Ok(())
 }
 
-fn print_groups(before: Record) {
-    print(b"unchanged");
-    print_step(before);
-    print_group(before, b"counts", 1, 16);
-    print_group(before, b"layers", 2, 21);
-    print_group(before, b"numbers", 3, 27);
-    print_group(before, b"unused", 4, 14);
-    print_group(before, b"well", 6, 10);
-    print_group(before, b"conductances", 7, 22);
-    print_group(before, b"storages", 8, 11);
-    print_group(before, b"sums", 9, 18);
-    print_group(before, b"totals", 10, 8);
-    print_group(before, b"depths", 11, 14);
-    print_group(before, b"below", 12, 12);
-    print_group(before, b"alone", 5, 14);
-    print_group(before, b"tables", 13, 14);
-    print_group(before, b"marks", 14, 32);
-    print_group(before, b"waters", 15, 27);
+fn print_groups(out: &mut impl Write, before: Record) -> io::Result<()> {
+    print(out, b"unchanged")?;
+    print_step(out, before)?;
+    print_group(out, before, b"counts", 1, 16)?;
+    print_group(out, before, b"layers", 2, 21)?;
+    print_group(out, before, b"numbers", 3, 27)?;
+    print_group(out, before, b"unused", 4, 14)?;
+    print_group(out, before, b"well", 6, 10)?;
+    print_group(out, before, b"conductances", 7, 22)?;
+    print_group(out, before, b"storages", 8, 11)?;
+    print_group(out, before, b"sums", 9, 18)?;
+    print_group(out, before, b"totals", 10, 8)?;
+    print_group(out, before, b"depths", 11, 14)?;
+    print_group(out, before, b"below", 12, 12)?;
+    print_group(out, before, b"alone", 5, 14)?;
+    print_group(out, before, b"tables", 13, 14)?;
+    print_group(out, before, b"marks", 14, 32)?;
+    print_group(out, before, b"waters", 15, 27)
 }
 
 // The record after the steps of the first entry, as many of them as are taken.
@@ -142,34 +159,30 @@ fn after_first_entry(text: &[u8], start: Record) -> Record {
     repeated.record
 }
 
-fn print_text(text: &[u8]) {
+fn print_text(out: &mut impl Write, text: &[u8]) -> io::Result<()> {
     let answer = scenario::start(text);
     let outcome = answer.outcome;
     if let Outcome::Refused(number) = outcome {
-        print_refused_scenario(number);
-        return;
+        print_refused_scenario(out, number)?;
+        return Ok(());
     }
     let start = answer.record;
-    print_groups(after_first_entry(text, start));
+    print_groups(out, after_first_entry(text, start))
 }
 
-// The text of the file that argument i names.
-fn print_file(i: usize) {
-    let file = check_print::open_argument(i);
-    if file < 0 {
-        return;
-    }
+// The text of the file that an argument names.
+fn print_file(rt: &impl Files, out: &mut impl Write, name: &str) -> io::Result<()> {
+    let file = check_print::open_argument(rt, out, name)?;
     // one byte more than a text may have
     let mut text = [0u8; 65537];
-    let got = check_print::read_closing(file, &mut text);
-    print_text(&text[..got]);
+    let got = check_print::read_closing(file, &mut text)?;
+    print_text(out, &text[..got])
 }
 
-fn main() {
-    let n = os::arg_count();
-    let mut i = 1;
-    while i < n {
-        print_file(i);
-        i += 1;
+fn main(rt: HostRuntime) -> io::Result<()> {
+    let mut out = BufWriter::new(rt.alloc(), io::writer(&rt))?;
+    for name in env::args(&rt)?.skip(1) {
+        print_file(&rt, &mut out, name.as_str())?;
     }
+    out.flush()
 }
