@@ -28,9 +28,14 @@ fn read_full(input: &mut impl Read, text: &mut [u8]) -> io::Result<usize>
     Ok(done)
 }
 
-// Says what failed, and why. Where standard error cannot be written either, nothing is left to say it on.
-fn fail(rt: &impl Eprint, what: &str, error: &io::Error) {
-    let _ = eprintln!(rt; "drawdown: {what}: {error}");
+// Says what could not be done. Where standard error cannot be written either, nothing is left to say it on.
+fn say(rt: &impl Eprint, what: &str) {
+    let _ = eprintln!(rt; "drawdown: {what}");
+}
+
+// The same with the reason.
+fn fail(rt: &impl Eprint, what: &str, reason: &io::Error) {
+    let _ = eprintln!(rt; "drawdown: {what}: {reason}");
 }
 
 // Whether the input has ended after what was read of it: one more read gives nothing.
@@ -39,7 +44,7 @@ fn input_ended(rt: &impl Eprint, input: &mut impl Read) -> bool {
     match read_full(input, &mut more) {
         Ok(0) => true,
         Ok(_) => {
-            let _ = eprintln!(rt; "drawdown: standard input could not be read in one go");
+            say(rt, "standard input could not be read in one go");
             false
         }
         Err(error) => {
