@@ -1,15 +1,22 @@
--- `validity_numbers::zero_from`: the slots before the loop's place hold 0, so that those from it on decide.
-use Rattle.std.proofs.Common.{sym, ◌∙◌, arith, eq-eqb, ne_eqb}
-use Rattle.validity_numbers.proofs.Laws.{zero_turn, zero_end}
+-- `validity_numbers::zero_from`: what a chain's `all` gives is the test of every element.
+use Rattle.std.proofs.Common.{◌≡◌, refl, ap, ◌∙◌, Bool, ◌&&◌, List, [], ◌∷◌, rules, tests, eqb, drop}
+use Rattle.std.specs.List.{list_all}
+use Rattle.std.proofs.lemmas.Iterator.{YieldsList-from_slice}
+use Rattle.std.proofs.lemmas.Iterator.Adapters.{YieldsList-from_skip}
+use Rattle.std.proofs.lemmas.Iterator.Search.{all_from_yields_List}
+use Rattle.laws.specs.Lists.{every}
+use Rattle.validity_numbers.specs.Numbers.{zero_from}
 use Rattle.validity_numbers.proofs.zero_from.Goals as goal
 
-pub returns-then-numbers-k-ne0 : goal.returns-then-numbers-k-ne0
-returns-then-numbers-k-ne0 c =
-    sym (c.loop-k.invariant ∙ zero_turn _ c.loop-k.k (omega arith) ∙ rw (ne_eqb _ 0 c.if-numbers-k-ne0.true))
-
-pub loop-k-preserved : goal.loop-k-preserved
-loop-k-preserved c =
-    c.loop-k.invariant ∙ zero_turn _ c.loop-k.k (omega arith) ∙ rw (eq-eqb _ 0 c.if-numbers-k-ne0.false)
+every_is : {A : Type 0} (p : A → Bool) (l : List A) → list_all p l ≡ every p l
+unfolding every
+every_is p [] = refl
+every_is p (a ∷ l) = ap (p a &&◌) (every_is p l)
 
 pub returns : goal.returns
-returns c = sym (c.loop-k.invariant ∙ zero_end _ c.loop-k.k (omega arith))
+unfolding zero_from
+returns c =
+    all_from_yields_List (λ x. eqb x 0) _ _ _ c.all.ensures.ran
+    (YieldsList-from_skip c.args.n (YieldsList-from_slice c.args.numbers.now cc) c.skip.ensures.count)
+    (λ x b q k. search (rules, tests))
+    ∙ every_is _ (drop c.args.n c.args.numbers.now)
