@@ -1,35 +1,28 @@
 -- What the tests of a text's length and first byte say of reading it.
-use mathlib.Core.Path.{◌≡◌, ◌∙◌}
-use mathlib.Core.Bool.{true, false, cond, or-true}
-use mathlib.Core.List.{List}
-use Prim.Native.Nat.{ℕ, ◌<◌, ◌≤◌}
-use lib.Dec.{leb, eqb}
-use lib.ListN.{length, get_or}
+use Rattle.std.proofs.Common.{◌≡◌, ◌∙◌, Option, Some, None, true, false, cond, List, ℕ, ◌<◌, ◌≤◌, leb, eqb, length, get_or, arith, le-leb, ne_eqb}
+use Rattle.std.proofs.lemmas.Bool.{lt-leb}
+use Rattle.std.proofs.Math.Bool.{or-true}
 use native.Mathlib.Decide.{dec_lt}
-use native.Mathlib.Omega.{arith}
-use borrow.Author.Tests.{le-leb, lt-leb, ne_eqb}
 use Rattle.laws.specs.Lists.{every}
-use Rattle.decimal.specs.declared.Decimal.{Decimal}
-use Rattle.decimal.specs.declared.Decimal.TheVariants.{Number, Malformed}
 use Rattle.limits.specs.Limits.{digit_limit}
 use Rattle.decimal.specs.Decimal.{zero_byte, is_digit, value, no_leading_zero, numeral, decimal_of}
 
 module _ (s : List ℕ) where
-  pub empty : length s < 1 → Malformed ≡ decimal_of s
+  pub empty : length s < 1 → None ≡ decimal_of s
   unfolding decimal_of numeral
   empty h = rw (lt-leb 1 (length s) h)
 
   module _ (some : 1 ≤ length s) where
-    pub too_long : digit_limit < length s → Malformed ≡ decimal_of s
+    pub too_long : digit_limit < length s → None ≡ decimal_of s
     unfolding decimal_of numeral
     too_long h = rw (le-leb 1 (length s) some, lt-leb (length s) digit_limit h)
 
     module _ (few : length s ≤ digit_limit) where
-      pub zero_leads : 1 < length s → eqb (get_or s 0 0) zero_byte ≡ true → Malformed ≡ decimal_of s
+      pub zero_leads : 1 < length s → eqb (get_or s 0 0) zero_byte ≡ true → None ≡ decimal_of s
       unfolding decimal_of numeral no_leading_zero
       zero_leads h e = rw (le-leb 1 (length s) some, le-leb (length s) digit_limit few, lt-leb (length s) 1 h, e)
 
-      pub by_digits : (r : Decimal) → no_leading_zero s ≡ true → r ≡ cond (every is_digit s) (Number (value s)) Malformed → r ≡ decimal_of s
+      pub by_digits : (r : Option ℕ) → no_leading_zero s ≡ true → r ≡ cond (every is_digit s) (Some (value s)) None → r ≡ decimal_of s
       unfolding decimal_of numeral
       by_digits r e q = q ∙ rw (le-leb 1 (length s) some, le-leb (length s) digit_limit few, e)
 

@@ -1,9 +1,5 @@
 -- Digits written one after another.
-use mathlib.Core.Path.{◌≡◌, ◌∙◌}
-use mathlib.Core.List.{List, [], ◌∷◌, ◌++◌}
-use Prim.Native.Nat.{ℕ, ◌+◌, ◌/◌, ◌%◌, ◌^◌, ◌<◌, ◌≤◌}
-use native.Mathlib.Omega.{arith}
-use lib.ListN.{length, set, replicate, length-append}
+use Rattle.std.proofs.Common.{◌≡◌, ◌∙◌, List, [], ◌∷◌, ◌++◌, ℕ, ◌+◌, ◌/◌, ◌%◌, ◌^◌, ◌<◌, ◌≤◌, length, set, replicate, arith, length-append}
 use Rattle.laws.specs.Lists.{padded}
 use Rattle.laws.specs.Padded.{padded_none, padded_more}
 use Rattle.decimal.specs.declared.Digits.{Digits}

@@ -1,10 +1,8 @@
 -- Decimal whole numbers (01, "The scenario text"): digits only, no leading zero except 0 itself, at most 18 digits.
 -- A text is the list of its bytes.
-use Rattle.std.specs.Prelude.{Bool, true, false, ◌&&◌, ◌||◌, not, cond, List, [], ◌∷◌, ◌++◌, ℕ, zero, suc, ◌+◌, ◌-◌, ◌*◌, ◌/◌, ◌%◌, ◌^◌, leb, ltb, eqb, length, get_or}
+use Rattle.std.specs.Prelude.{Option, Some, None, Bool, true, false, ◌&&◌, ◌||◌, not, cond, List, [], ◌∷◌, ◌++◌, ℕ, zero, suc, ◌+◌, ◌-◌, ◌*◌, ◌/◌, ◌%◌, ◌^◌, leb, ltb, eqb, length, get_or}
 use Rattle.limits.specs.Limits.{digit_limit}
 use Rattle.laws.specs.Lists.{every, padded}
-use Rattle.decimal.specs.declared.Decimal.{Decimal}
-use Rattle.decimal.specs.declared.Decimal.TheVariants.{Number, Malformed}
 use Rattle.decimal.specs.declared.Digits.{Digits}
 
 -- the byte of the digit 0
@@ -28,9 +26,9 @@ no_leading_zero s = leb (length s) 1 || not (eqb (get_or s 0 0) zero_byte)
 unfoldable pub numeral : List ℕ → Bool
 numeral s = leb 1 (length s) && leb (length s) digit_limit && no_leading_zero s && every is_digit s
 
--- what reading a text as a decimal whole number gives
-unfoldable pub decimal_of : List ℕ → Decimal
-decimal_of s = cond (numeral s) (Number (value s)) Malformed
+-- what reading a text as a decimal whole number gives: none where it is not one
+unfoldable pub decimal_of : List ℕ → Option ℕ
+decimal_of s = cond (numeral s) (Some (value s)) None
 
 -- the digits of n in at most k + 1 places: those of its tenth and then its last; below ten it is one digit
 unfoldable pub digits_in : ℕ → ℕ → List ℕ

@@ -7,7 +7,7 @@
 --     value_digits       the digits of n stand for n
 --     all_digits         they are digits; some_digits: there is one; few_digits: how many there are; no_zero: none leads idly
 --     read_digits        reading them gives n again
-use Rattle.std.specs.Prelude.{◌≡◌, refl, Bool, true, false, cond, List, [], ◌∷◌, ◌++◌, ℕ, zero, suc, ◌+◌, ◌-◌, ◌*◌, ◌/◌, ◌%◌, ◌^◌, ◌<◌, ◌≤◌, leb, length, get_or}
+use Rattle.std.specs.Prelude.{◌≡◌, refl, Some, None, Bool, true, false, cond, List, [], ◌∷◌, ◌++◌, ℕ, zero, suc, ◌+◌, ◌-◌, ◌*◌, ◌/◌, ◌%◌, ◌^◌, ◌<◌, ◌≤◌, leb, length, get_or}
 use Rattle.std.proofs.Common.{sym, ap, ◌∙◌, ⊎_elim, pow-suc, mul-le-mul_right, arith, length-append, lt-ltb, le-ltb, le-leb, leb-true, ne_eqb}
 use Rattle.std.proofs.Math.Bool.{or-true}
 use Rattle.std.proofs.Math.Nat.{pow-zero}
@@ -16,7 +16,6 @@ use Rattle.laws.specs.All.{and_left, and_right}
 use Rattle.laws.specs.Lists.{every}
 use Rattle.laws.specs.Every.{every_append}
 use Rattle.laws.specs.Number.{below_or_not}
-use Rattle.decimal.specs.declared.Decimal.TheVariants.{Number, Malformed}
 use Rattle.limits.specs.Limits.{digit_limit}
 use Rattle.decimal.specs.Decimal.{zero_byte, is_digit, value, no_leading_zero, numeral, decimal_of, digits_in, digits_of}
 
@@ -47,19 +46,19 @@ value-below (c ∷ s) e =
     let rest = value-below s (and_right (is_digit c) (every is_digit s) e) in
     rw (pow-suc 10 (length s)) (omega (arith, mul-le-mul_right (10 ^ length s) d))
 
-by_test : (b : Bool) (s : List ℕ) (v : ℕ) → cond b (Number (value s)) Malformed ≡ Number v → (b ≡ true) × (value s ≡ v)
+by_test : (b : Bool) (s : List ℕ) (v : ℕ) → cond b (Some (value s)) None ≡ Some v → (b ≡ true) × (value s ≡ v)
 by_test true s v e = (refl, cc)
-by_test false s v e = let z : ◌≡◌ {A = ℕ} 0 1 = cc in absurd (omega arith)
+by_test false s v e = absurd cc
 
-pub number_read : (s : List ℕ) (v : ℕ) → decimal_of s ≡ Number v → (numeral s ≡ true) × (value s ≡ v)
+pub number_read : (s : List ℕ) (v : ℕ) → decimal_of s ≡ Some v → (numeral s ≡ true) × (value s ≡ v)
 unfolding decimal_of
 number_read s v e = by_test (numeral s) s v e
 
-other_test : (b : Bool) (s : List ℕ) → cond b (Number (value s)) Malformed ≡ Malformed → b ≡ false
-other_test true s e = let z : ◌≡◌ {A = ℕ} 0 1 = cc in absurd (omega arith)
+other_test : (b : Bool) (s : List ℕ) → cond b (Some (value s)) None ≡ None → b ≡ false
+other_test true s e = absurd cc
 other_test false s e = refl
 
-pub malformed_read : (s : List ℕ) → decimal_of s ≡ Malformed → numeral s ≡ false
+pub malformed_read : (s : List ℕ) → decimal_of s ≡ None → numeral s ≡ false
 unfolding decimal_of
 malformed_read s e = other_test (numeral s) s e
 
@@ -163,7 +162,7 @@ no_zero n =
     (λ le. rw (ne_eqb (get_or (digits_of n) 0 0) zero_byte (first_digit n (omega arith))) (or-true (leb (length (digits_of n)) 1)))
     (below_or_not n 10)
 
-pub read_digits : (n : ℕ) → n < 10 ^ digit_limit → decimal_of (digits_of n) ≡ Number n
+pub read_digits : (n : ℕ) → n < 10 ^ digit_limit → decimal_of (digits_of n) ≡ Some n
 unfolding decimal_of numeral
 read_digits n h =
     rw (

@@ -1,7 +1,7 @@
 // Decimal whole numbers: digits to number and number to digits.
 #![tactic(auto)]
 
-ghost use Rattle.std.specs.Prelude.{◌≡◌, true, cond, ◌+◌, ◌-◌, ◌*◌, ◌^◌, ◌≤◌, ◌<◌, length, set};
+ghost use Rattle.std.specs.Prelude.{◌≡◌, true, cond, Some, None, ◌+◌, ◌-◌, ◌*◌, ◌^◌, ◌≤◌, ◌<◌, length, set};
 ghost use Rattle.laws.specs.Lists.{every};
 ghost use Rattle.limits.specs.Limits.{digit_limit};
 ghost use Rattle.decimal.specs.Decimal.{zero_byte, is_digit, value, decimal_of, digit_places, written_of};
@@ -14,25 +14,11 @@ const ZERO: u8 = b'0';
 // The most digits of a word.
 const DIGIT_PLACES: usize = 20;
 
-// What a text stands for.
-#[derive(Clone, Copy)]
-pub enum Decimal {
-    Number(u64),
-    Malformed,
-}
-
 // The digits of a number, the most significant first, and 0 after the last.
 #[derive(Clone, Copy)]
 pub struct Digits {
     pub count: usize,
     pub bytes: [u8; DIGIT_PLACES],
-}
-
-// Whether a byte is one of the ten digits.
-fn is_digit(c: u8) -> bool
-    ensures { result ≡ is_digit c }
-{
-    ZERO <= c && c <= ZERO + 9
 }
 
 // The number with one digit more at its end.
@@ -44,35 +30,32 @@ fn joined(v: u64, c: u8) -> u64
 }
 
 // Bytes that are to be digits only, few enough for a word.
-fn read_digits(s: &[u8]) -> Decimal
+fn read_digits(s: &[u8]) -> Option<u64>
     requires { length s.now ≤ digit_limit }
-    ensures { result ≡ cond (every is_digit s.now) (Decimal.Number (value s.now)) Decimal.Malformed }
+    ensures { result ≡ cond (every is_digit s.now) (Some (value s.now)) None }
 {
-    let mut v: u64 = 0;
-    let mut i: usize = 0;
-    while i < s.len() {
-        let c = s[i];
-        if !is_digit(c) {
-            return Decimal::Malformed;
+    let mut v = 0;
+    for c in s {
+        if !c.is_ascii_digit() {
+            return None;
         }
-        v = joined(v, c);
-        i += 1;
+        v = joined(v, *c);
     }
-    Decimal::Number(v)
+    Some(v)
 }
 
 // A text read as a decimal whole number.
-pub fn read(s: &[u8]) -> Decimal
+pub fn read(s: &[u8]) -> Option<u64>
     ensures { result ≡ decimal_of s.now }
 {
-    if s.len() < 1 {
-        return Decimal::Malformed;
+    if s.is_empty() {
+        return None;
     }
     if DIGIT_LIMIT < s.len() {
-        return Decimal::Malformed;
+        return None;
     }
     if 1 < s.len() && s[0] == ZERO {
-        return Decimal::Malformed;
+        return None;
     }
     read_digits(s)
 }
