@@ -11,23 +11,19 @@ use limits::{CELL_PLACES, LENGTH_LIMIT, RATE_LIMIT, TOTAL_LIMIT};
 use validity_drawdowns::deeper_than;
 
 // 7, its length part: Δt 0 or over 10^9 µs.
+#[tactic(auto, unfolding(network::specs::Network::length_out))]
 pub fn length_out(dt: u64) -> bool
     ensures { result ≡ length_out dt }
 {
-    if dt == 0 {
-        return true;
-    }
-    LENGTH_LIMIT < dt
+    dt == 0 || LENGTH_LIMIT < dt
 }
 
 // 7: rate over 10^7 ml/s, or the length part.
+#[tactic(auto, unfolding(network::specs::Network::rate_or_length_out))]
 pub fn rate_or_length_out(rate: u64, dt: u64) -> bool
     ensures { result ≡ rate_or_length_out rate dt }
 {
-    if RATE_LIMIT < rate {
-        return true;
-    }
-    length_out(dt)
+    RATE_LIMIT < rate || length_out(dt)
 }
 
 // 9: the pumped total, nl, or the time, µs, would pass 4×10^18.
@@ -35,10 +31,7 @@ pub fn totals_pass(pumped: u64, time: u64, rate: u64, dt: u64) -> bool
     requires { (pumped ≤ total_limit) × (time ≤ total_limit) × (rate ≤ rate_limit) × (dt ≤ length_limit) }
     ensures { result ≡ totals_full pumped time rate dt }
 {
-    if TOTAL_LIMIT < pumped + rate * dt {
-        return true;
-    }
-    TOTAL_LIMIT < time + dt
+    TOTAL_LIMIT < pumped + rate * dt || TOTAL_LIMIT < time + dt
 }
 
 // 10: the well's D passes 1000×p, with the intake p in mm.
@@ -59,12 +52,10 @@ pub fn table_too_deep<'a>(
     requires { (columns ≤ 50) × (1000 * thickness ≤ drawdown_limit) × Filled (columns - 1) storages.now losses.now }
     ensures { result ≡ not (table_within columns thickness storages.now losses.now) }
 {
-    let mut k = 0;
-    while k + 1 < columns {
+    for k in 0..columns.saturating_sub(1) {
         if deeper_than(1000 * thickness, storages[k], losses[k]) {
             return true;
         }
-        k += 1;
     }
     false
 }

@@ -5,7 +5,7 @@ use Rattle.step_conditions.specs.Conditions.{table_within}
 use Rattle.step_conditions.proofs.table_too_deep.Goals as goal
 
 pub loop-k-init : goal.loop-k-init
-loop-k-init c = (omega arith, all_none _)
+loop-k-init c = all_none _
 
 pub returns-then-deeper_than : goal.returns-then-deeper_than
 unfolding table_within
@@ -18,8 +18,8 @@ pub loop-k-preserved : goal.loop-k-preserved
 loop-k-preserved c =
     let k = c.loop-k.k in
     let f : SFits w64 (get_or c.args.losses.now k (pos 0)) = search rules in
-    (omega arith, all_more _ k c.loop-k.invariant.1 (ap not (sym (rw (to_z-of_z f) at c.deeper_than.ensures) ∙ c.if-deeper_than.false)))
+    all_more _ k c.loop-k.invariant (ap not (sym (rw (to_z-of_z f) at c.deeper_than.ensures) ∙ c.if-deeper_than.false))
 
 pub returns : goal.returns
 unfolding table_within
-returns c = let e : c.loop-k.k ≡ c.args.columns - 1 = omega arith in sym (ap not (rw e at c.loop-k.invariant.1))
+returns c = let e : c.loop-k.k ≡ c.args.columns - 1 = omega arith in sym (ap not (rw e at c.loop-k.invariant))

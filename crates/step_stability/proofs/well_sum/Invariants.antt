@@ -1,11 +1,8 @@
 -- `step_stability::well_sum`: so many C, none over the limit.
-use Rattle.std.proofs.Common.{◌≡◌, ◌*◌, ◌-◌, ◌≤◌}
+use Rattle.std.proofs.Common.{◌≡◌, ◌*◌, ◌≤◌}
 use Rattle.limits.specs.Limits.{conductance_limit}
 use Rattle.step_stability.specs.Stability.{well_sum}
 use Rattle.step_stability.proofs.well_sum.Given as goal
 
 abbrev pub invariant-loop-i : goal.invariant-loop-i
-invariant-loop-i l = (l.i ≤ l.layers) × (l.sum ≡ well_sum l.i l.screen) × (l.sum ≤ l.i * conductance_limit)
-
-abbrev pub decreases-loop-i : goal.decreases-loop-i
-decreases-loop-i l = l.layers - l.i
+invariant-loop-i l = (l.sum ≡ well_sum l.i l.rec.screen) × (l.sum ≤ l.i * conductance_limit)
