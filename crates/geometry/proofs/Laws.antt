@@ -5,7 +5,7 @@ use lib.Dec.{eqb}
 use Rattle.limits.specs.Limits.{midsection_factor}
 use Rattle.words.specs.Fitted.{fitted}
 use Rattle.words.specs.Laws.{fitted-word}
-use Rattle.words.specs.declared.Quotient.TheVariants.{Word}
+use Rattle.std.specs.Prelude.{Some}
 use borrow.Author.Tests.{eq-eqb, lt-ltb, le-ltb}
 use Prim.Native.Nat.{ℕ, zero, suc, ◌+◌, ◌*◌, ◌-◌, ◌/◌, ◌^◌, ◌<◌, ◌≤◌}
 use native.Mathlib.Decide.{dec_lt}
@@ -102,10 +102,10 @@ pub product_at_most : (m n : ℕ) {a b : ℕ} → a ≤ m → b ≤ n → a * b 
 product_at_most m n ha hb = mul-le-mul ha hb
 
 -- ---- the vertical C: of two layers of which one lets no water through, and of others
-pub closed_above : (kv₁ kv₂ n : ℕ) → kv₁ ≡ 0 → Word 0 ≡ fitted (cond (eqb kv₁ 0 || eqb kv₂ 0) 0 n)
+pub closed_above : (kv₁ kv₂ n : ℕ) → kv₁ ≡ 0 → Some 0 ≡ fitted (cond (eqb kv₁ 0 || eqb kv₂ 0) 0 n)
 closed_above kv₁ kv₂ n e = rw (eq-eqb kv₁ 0 e) (sym (fitted-word (omega arith)))
 
-pub closed_below : (kv₁ kv₂ n : ℕ) → kv₂ ≡ 0 → Word 0 ≡ fitted (cond (eqb kv₁ 0 || eqb kv₂ 0) 0 n)
+pub closed_below : (kv₁ kv₂ n : ℕ) → kv₂ ≡ 0 → Some 0 ≡ fitted (cond (eqb kv₁ 0 || eqb kv₂ 0) 0 n)
 closed_below kv₁ kv₂ n e = rw (eq-eqb kv₂ 0 e, or-true (eqb kv₁ 0)) (sym (fitted-word (omega arith)))
 
 -- ---- areas

@@ -6,7 +6,6 @@ ghost use Rattle.limits.specs.Limits.{midsection_factor};
 ghost use Rattle.words.specs.Fitted.{fitted};
 ghost use Rattle.geometry.specs.Geometry.{terms, series_logarithm, logarithm_of_three, logarithm, area, horizontal, vertical, from_table, unconfined_storage, confined_storage, well_storage};
 
-use words::Quotient;
 use words::divide::{quotient, quotient_word};
 
 // Λ(3q, q) of every q above 0.
@@ -19,11 +18,9 @@ fn series(z: u64, w: u64) -> u64
 {
     let mut sum = 0;
     let mut t = z;
-    let mut k = 0;
-    while k < 16 {
+    for k in 0..16 {
         sum += t / (2 * k + 1);
         t = t * w / 1073741824;
-        k += 1;
     }
     sum
 }
@@ -63,7 +60,7 @@ pub fn area(outer: u64, inner: u64) -> u64
 }
 
 // Horizontal C of a layer between two columns, of which `log` is the logarithm of their midsection radii.
-pub fn horizontal(b: u64, kh: u64, log: u64) -> Quotient
+pub fn horizontal(b: u64, kh: u64, log: u64) -> Option<u64>
     requires { (b ≤ 1000000) × (kh ≤ 100000000) × (0 < log) }
     ensures { result ≡ fitted (horizontal b kh log) }
 {
@@ -71,21 +68,21 @@ pub fn horizontal(b: u64, kh: u64, log: u64) -> Quotient
 }
 
 // A quotient with the conductivities of both layers in its dividend: 0 if either lets no water through, where the divisor may be 0.
-fn through_both(a: u64, kv1: u64, kv2: u64, d: u64) -> Quotient
+fn through_both(a: u64, kv1: u64, kv2: u64, d: u64) -> Option<u64>
     requires { (kv1 ≤ 100000000) × (kv2 ≤ 100000000) × (0 < kv1 → 0 < kv2 → 0 < d) }
     ensures { result ≡ fitted (cond (eqb kv1 0 || eqb kv2 0) 0 (a * kv1 * kv2 / d)) }
 {
     if kv1 == 0 {
-        return Quotient::Word(0);
+        return Some(0);
     }
     if kv2 == 0 {
-        return Quotient::Word(0);
+        return Some(0);
     }
     quotient(a, kv1 * kv2, d)
 }
 
 // Vertical C over an area between a layer below layer 1, of b1 and kv1, and the next one; 0 if either lets no water through.
-pub fn vertical(a: u64, b1: u64, kv1: u64, b2: u64, kv2: u64) -> Quotient
+pub fn vertical(a: u64, b1: u64, kv1: u64, b2: u64, kv2: u64) -> Option<u64>
     requires { (a ≤ 2 ^ 44) × (0 < b1) × (b1 ≤ 1000000) × (kv1 ≤ 100000000) × (b2 ≤ 1000000) × (kv2 ≤ 100000000) }
     ensures { result ≡ fitted (vertical a b1 kv1 b2 kv2) }
 {
@@ -93,7 +90,7 @@ pub fn vertical(a: u64, b1: u64, kv1: u64, b2: u64, kv2: u64) -> Quotient
 }
 
 // Vertical C over an area between layers 1 and 2, where the water table is s µm above the bottom of layer 1; 0 if either lets no water through.
-pub fn from_table(a: u64, kv1: u64, b2: u64, kv2: u64, s: u64) -> Quotient
+pub fn from_table(a: u64, kv1: u64, b2: u64, kv2: u64, s: u64) -> Option<u64>
     requires { (a ≤ 2 ^ 44) × (kv1 ≤ 100000000) × (0 < b2) × (b2 ≤ 1000000) × (kv2 ≤ 100000000) × (s ≤ 1000000000) }
     ensures { result ≡ fitted (from_table a kv1 b2 kv2 s) }
 {
@@ -107,14 +104,14 @@ pub fn table_case()
 {}
 
 // S of a cell of layer 1.
-pub fn unconfined_storage(a: u64, y: u64) -> Quotient
+pub fn unconfined_storage(a: u64, y: u64) -> Option<u64>
     ensures { result ≡ fitted (unconfined_storage a y) }
 {
     quotient(a, y, 1)
 }
 
 // S of a cell below layer 1.
-pub fn confined_storage(a: u64, b: u64, storage: u64) -> Quotient
+pub fn confined_storage(a: u64, b: u64, storage: u64) -> Option<u64>
     requires { (b ≤ 1000000) × (storage ≤ 1000000) }
     ensures { result ≡ fitted (confined_storage a b storage) }
 {

@@ -3,7 +3,6 @@
 ghost use Rattle.std.specs.Prelude.{◌≡◌, ◌+◌, ◌*◌, ◌/◌, ◌%◌, ◌^◌, ◌<◌, ◌≤◌};
 ghost use Rattle.words.specs.Fitted.{fitted};
 
-use super::Quotient;
 use super::multiply::product;
 
 // One step of the long division: the digit and what it leaves.
@@ -68,24 +67,24 @@ fn by_word(high: u64, low: u64, d: u64) -> u64
     if high == 0 {
         return low / d;
     }
-    let shift = u64::leading_zeros(d);
+    let shift = d.leading_zeros();
     let top = (high << shift) + ((low >> 1) >> (63 - shift));
     by_full_width(top, low << shift, d << shift)
 }
 
-// a * b / d, rounded down, or that it is over one word.
-pub fn quotient(a: u64, b: u64, d: u64) -> Quotient
+// a * b / d, rounded down, where it fits a word.
+pub fn quotient(a: u64, b: u64, d: u64) -> Option<u64>
     requires { 0 < d }
     ensures { result ≡ fitted (a * b / d) }
 {
     let p = product(a, b);
     if p.high < d {
-        return Quotient::Word(by_word(p.high, p.low, d));
+        return Some(by_word(p.high, p.low, d));
     }
-    Quotient::Over
+    None
 }
 
-// a * b / d, rounded down, where it fits a word.
+// a * b / d, rounded down, which fits a word.
 pub fn quotient_word(a: u64, b: u64, d: u64) -> u64
     requires { (0 < d) × (a * b / d < 2 ^ 64) }
     ensures { result ≡ a * b / d }

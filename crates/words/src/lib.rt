@@ -11,10 +11,3 @@ pub struct Product {
     pub high: u64,
     pub low: u64,
 }
-
-// A whole quotient that fits a word, or that it is over one.
-#[derive(Clone, Copy)]
-pub enum Quotient {
-    Word(u64),
-    Over,
-}

@@ -60,7 +60,7 @@ pub fn difference(a: u64, b: u64, c: u64, d: u64) -> u64
     requires { (c * d ≤ a * b) × (a * b - c * d < 2 ^ 64) }
     ensures { result ≡ a * b - c * d }
 {
-    std::num::wrapping_sub_u64(low_word(a, b), low_word(c, d))
+    low_word(a, b).wrapping_sub(low_word(c, d))
 }
 
 // Whether a * b is at most c * d.

@@ -10,7 +10,7 @@ loop-k-preserved c =
     let p : c.loop-k.t * c.args.w ≤ 2 ^ 29 * 2 ^ 28 = product_at_most (2 ^ 29) (2 ^ 28) (omega arith) (omega arith) in
     let q : c.loop-k.t / (2 * c.loop-k.k + 1) ≤ c.loop-k.t = div-le_self _ _ in
     let e = one_more c.args.w c.loop-k.k c.loop-k.t (omega arith) in
-    (omega arith, div-le_of_le-mul (2 ^ 30) (omega arith), omega arith, omega arith)
+    (div-le_of_le-mul (2 ^ 30) (omega arith), omega arith, omega arith)
 
 pub returns : goal.returns
 returns c =
