@@ -3,6 +3,7 @@ use Rattle.std.specs.Prelude.{◌≡◌, refl, ℕ, ℤ, pos}
 use Rattle.std.proofs.Common.{sym, ap, ap₂, subst, ◌∙◌, arith}
 use Rattle.std.proofs.Math.Path.{fun_ext}
 use mathlib.Core.List.{List, [], ◌∷◌, ◌++◌, map-append, flat_map}
+use Rattle.refusals.specs.Refusals.{outcome_of}
 use Rattle.laws.specs.Lists.{all_below, padded, first, ifℕ, ifℤ, sumℕ, sumℤ, range, some}
 use Rattle.network.specs.Network.{Rule, Network, State, at_rest, is_place, loss_at, storage_at, drawdown, saturated, at_table, in_use_by, in_use, water, crossing, flow, outflow, toward, inward, loss_after, losses_after, from_last_column, moved, length_out, rate_or_length_out, conductance_sum, stable, unstable, totals_pass, well_too_deep, table_too_deep, step_tests, refusal}
 use Rattle.network.specs.Grid.{layers_of, upper_layers, stored_columns, place, place_count, one_per_place, across_rule, down_rule, across_face, down_face, screen_faces, faces_of, network_of}
@@ -12,7 +13,7 @@ use Rattle.site.specs.Columns.{logarithm_at, area_at}
 use Rattle.site.specs.Site.{is_screened, midsection}
 use Rattle.sections.specs.Sections.{section_count, section_of, rest_of, from_columns, from_well, from_loss, field, site_of}
 use Rattle.record.specs.declared.Record.{Record}
-use Rattle.record.specs.Record.{slot, slots, layer_slots, is_cell, has_below, has_screen, across_in, grid_of, state_of, outcome_of}
+use Rattle.record.specs.Record.{slot, slots, layer_slots, is_cell, has_below, has_screen, across_in, grid_of, state_of}
 use Rattle.coefficient_cells.specs.Cells.{across_of, down_of, storage_of}
 use Rattle.coefficients.specs.Coefficients.{scenario_grid, start_record}
 use Rattle.scenario.specs.Scenario.{start_of}

@@ -4,6 +4,7 @@
 use Rattle.std.specs.Prelude.{◌≡◌, refl, true}
 use Rattle.std.proofs.Common.{ap, ◌∙◌}
 use mathlib.Core.List.{get_last_d, flat_map}
+use Rattle.refusals.specs.Refusals.{outcome_of}
 use Rattle.laws.specs.Lists.{first, all_below, every, padded, range}
 use Rattle.laws.specs.Refusal.{first-after}
 use Rattle.decimal.specs.Decimal.{is_digit, value, no_leading_zero, numeral, digits_in, digits_of}
@@ -14,7 +15,7 @@ use Rattle.site.specs.Columns.{logarithm_at, area_at}
 use Rattle.site.specs.Site.{is_screened, midsection, layer_top, topmost_screened, storage_holds, layer_holds, layer_at, well_holds, numbers_hold, column_rises, radii_hold, screen_holds}
 use Rattle.sections.specs.Sections.{section_count, section_of, rest_of, section_tests, from_columns, from_well, from_loss, from_pumping, left_over, form_tests, field, site_of, repeats_hold}
 use Rattle.sections.specs.Laws.{form_numbered}
-use Rattle.record.specs.Record.{outcome_of, answer_of}
+use Rattle.record.specs.Record.{answer_of}
 use Rattle.coefficient_slots.specs.Slots.{conductances_hold, storages_hold, coefficients_hold}
 use Rattle.coefficient_cells.specs.Cells.{across_of, down_of, storage_of}
 use Rattle.coefficients.specs.Coefficients.{scenario_grid, start_record}

@@ -1,7 +1,9 @@
 -- The cases that document 01 marks K, with what document 02 changes of them: what the definitions give for bore K beside what the documents say. The
 -- statement that the two agree is proofs/Agrees.antt. One row more is not marked K: bore K cannot see which of its two equal Kv stands where.
-use Rattle.std.specs.Prelude.{◌≡◌, ℕ, zero, suc, ℤ, pos, neg_ℤ, get_or}
+use Rattle.std.specs.Prelude.{◌≡◌, ℕ, zero, suc, ℤ, pos, neg_ℤ, get_or, Result, Ok, Err}
 use mathlib.Core.List.{List, [], ◌∷◌, ◌++◌, map}
+use Rattle.refusals.specs.declared.Refusal.{Refusal}
+use Rattle.refusals.specs.Refusals.{number_of}
 use Rattle.network.specs.Network.{Network, drawdown, in_use, flow}
 use Rattle.network.specs.Grid.{Grid, place, across_face, down_face, network_of}
 use Rattle.geometry.specs.Geometry.{logarithm, horizontal}
@@ -9,8 +11,6 @@ use Rattle.site.specs.Columns.{area_at}
 use Rattle.sections.specs.Sections.{site_of}
 use Rattle.record.specs.declared.Record.{Record}
 use Rattle.record.specs.declared.Answer.{Answer}
-use Rattle.record.specs.declared.Outcome.{Outcome}
-use Rattle.record.specs.declared.Outcome.TheVariants.{Taken, Refused}
 use Rattle.record.specs.Record.{slot, grid_of, state_of}
 use Rattle.coefficients.specs.Coefficients.{scenario_grid}
 use Rattle.scenario.specs.Scenario.{start_of}
@@ -22,9 +22,9 @@ abbrev pub Row : Type 0
 Row = ℤ × ℤ
 
 -- the number of an outcome, 0 for taken
-unfoldable pub outcome_number : Outcome → ℕ
-outcome_number Taken = 0
-outcome_number (Refused n) = n
+unfoldable pub outcome_number : Result Unit Refusal → ℕ
+outcome_number (Ok u) = 0
+outcome_number (Err k) = number_of k
 
 -- the rows for start's answer
 unfoldable pub start_rows : Answer → List Row

@@ -1,21 +1,21 @@
 -- The controller's choice (document 02, N13): of some rates the highest at which so many steps in a row are all accepted.
 -- Units: rates ml/s; lengths of steps µs.
-use Rattle.std.specs.Prelude.{Bool, true, false, cond, not, ◌&&◌, List, [], ◌∷◌, ℕ, zero, suc, ◌-◌, ltb, length, get_or}
+use Rattle.std.specs.Prelude.{Bool, true, false, cond, not, ◌&&◌, List, [], ◌∷◌, ℕ, zero, suc, ◌-◌, ltb, length, get_or, Option, Some, None, Result, Ok, Err}
 use Rattle.limits.specs.Limits.{between, choice_rate_limit, choice_step_limit}
+use Rattle.refusals.specs.declared.Refusal.{Refusal}
+use Rattle.refusals.specs.Refusals.{given}
 use Rattle.laws.specs.Lists.{all_below, first}
 use Rattle.record.specs.declared.Record.{Record}
-use Rattle.record.specs.declared.Outcome.{Outcome}
 use Rattle.validity.specs.Validity.{valid}
 use Rattle.step_rules.specs.Step.{step_of}
-use Rattle.control_choice.specs.declared.Choice.{Choice}
 use Rattle.control_choice.specs.declared.Chosen.{Chosen}
 
 -- ---- steps in a row
 
 -- whether a step with this outcome is accepted
-unfoldable pub is_taken : Outcome → Bool
-is_taken Outcome.Taken = true
-is_taken (Outcome.Refused n) = false
+unfoldable pub is_taken : Result Unit Refusal → Bool
+is_taken (Ok u) = true
+is_taken (Err k) = false
 
 -- whether n steps of dt at a rate are all accepted: the first on r, and the others from the record that it gives on
 unfoldable pub all_accepted : ℕ → ℕ → ℕ → Record → Bool
@@ -48,11 +48,14 @@ unfoldable pub highest_of : ℕ → List ℕ → ℕ
 highest_of x [] = x
 highest_of x (y ∷ l) = highest_of (cond (ltb x y) y x) l
 
--- by the number of the first refusal, 0 for none: the highest of the accepted rates, or none where there are none; or the number and nothing else
-unfoldable pub choice_of : ℕ → List ℕ → Choice
-choice_of zero [] = Choice.NoRate
-choice_of zero (x ∷ l) = Choice.Rate (highest_of x l)
-choice_of (suc n) l = Choice.Refused (suc n)
+-- the highest of the accepted rates, or none where there are none
+unfoldable pub best_of : List ℕ → Option ℕ
+best_of [] = None
+best_of (x ∷ l) = Some (highest_of x l)
+
+-- by the number of the first refusal, 0 for none
+unfoldable pub choice_of : ℕ → List ℕ → Result (Option ℕ) Refusal
+choice_of n l = given n (best_of l)
 
 -- the choice for n steps of dt from r, and the record handed back, which is r
 unfoldable pub chosen_of : Record → List ℕ → ℕ → ℕ → Chosen

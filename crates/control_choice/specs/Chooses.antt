@@ -1,14 +1,13 @@
 -- What the choice is (document 02, N13), as a theorem says it of what `choose` answers, whatever it is handed, in what `step` and `repeat` answer.
 -- Units: rates ml/s; lengths of steps µs.
-use Rattle.std.specs.Prelude.{◌≡◌, true, false, List, ◌⊎◌, ℕ, zero, suc, ◌<◌, ◌≤◌, length, get_or}
+use Rattle.std.specs.Prelude.{◌≡◌, true, false, List, ◌⊎◌, ℕ, zero, suc, ◌<◌, ◌≤◌, length, get_or, Option, Some, None, Result, Ok, Err}
 use Rattle.limits.specs.Limits.{choice_rate_limit, choice_step_limit}
+use Rattle.refusals.specs.Refusals.{outcome_of}
+use Rattle.refusals.specs.declared.Refusal.{Refusal}
 use Rattle.record.specs.declared.Record.{Record}
-use Rattle.record.specs.declared.Outcome.{Outcome}
-use Rattle.record.specs.Record.{outcome_of}
 use Rattle.validity.specs.Validity.{valid}
 use Rattle.step_rules.specs.Step.{step_of}
 use Rattle.step.specs.Repeat.{repeat_of}
-use Rattle.control_choice.specs.declared.Choice.{Choice}
 use Rattle.control_choice.specs.Choice.{chosen_of}
 
 -- the record after k steps of dt at a rate, each on the record that the one before it gave; a refused one gives the record that it was handed
@@ -17,7 +16,7 @@ record_after rate dt zero r = r
 record_after rate dt (suc k) r = record_after rate dt k (step_of r rate dt).«record»
 
 -- what becomes of the step after these
-abbrev pub outcome_after : ℕ → ℕ → ℕ → Record → Outcome
+abbrev pub outcome_after : ℕ → ℕ → ℕ → Record → Result Unit Refusal
 outcome_after rate dt k r = (step_of (record_after rate dt k r) rate dt).outcome
 
 -- x stands on the list l, in the place `at`, counted from 0
@@ -55,19 +54,19 @@ module _ (r : Record) (dt n : ℕ) where
 
 module _ (r : Record) (rates : List ℕ) (dt n : ℕ) where
   -- what a choice says
-  unfoldable pub Says : Choice → Type 0
+  unfoldable pub Says : Result (Option ℕ) Refusal → Type 0
   -- it stands on the list, all its steps are accepted, and every higher rate on the list meets a refused step
-  Says (Choice.Rate x) =
+  Says (Ok (Some x)) =
       (valid r ≡ true) × Holds rates n × Stands rates x × AllAccepted r dt n x × ((y : ℕ) → Stands rates y → x < y → MeetsRefused r dt n y)
   -- each rate on the list meets one
-  Says Choice.NoRate = (valid r ≡ true) × Holds rates n × ((y : ℕ) → Stands rates y → MeetsRefused r dt n y)
+  Says (Ok None) = (valid r ≡ true) × Holds rates n × ((y : ℕ) → Stands rates y → MeetsRefused r dt n y)
   -- 14 refuses the record; or it does not, and 20 refuses the list or the number of steps
-  Says (Choice.Refused k) = ((k ≡ 14) × (valid r ≡ false)) ⊎ ((k ≡ 20) × (valid r ≡ true) × (Holds rates n → ⊥))
+  Says (Err k) = ((k ≡ Refusal.Record) × (valid r ≡ false)) ⊎ ((k ≡ Refusal.Choice) × (valid r ≡ true) × (Holds rates n → ⊥))
 
   pub record Chooses : Type 0 where
     pub says : Says (chosen_of r rates dt n).choice
     -- and of no other choice could this be said: so each is given exactly where it is due
-    pub only : (a : Choice) → Says a → a ≡ (chosen_of r rates dt n).choice
+    pub only : (a : Result (Option ℕ) Refusal) → Says a → a ≡ (chosen_of r rates dt n).choice
     -- the record handed in is the one handed back
     pub kept : (chosen_of r rates dt n).«record» ≡ r
     -- what is said of steps in a row is what `repeat` answers of them, on any record that 14 lets pass

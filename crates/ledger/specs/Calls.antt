@@ -1,14 +1,13 @@
 -- The calls of a run and what they answer (document 01, 'The ledger of a run'): step and every reading, with any arguments beside the record.
 -- What each answers is the definition in its own contract.
-use Rattle.std.specs.Prelude.{List, [], ◌∷◌, ℕ}
+use Rattle.std.specs.Prelude.{List, [], ◌∷◌, ℕ, Bool, ℤ, Result}
+use Rattle.refusals.specs.declared.Refusal.{Refusal}
 use Rattle.record.specs.declared.Record.{Record}
 use Rattle.record.specs.declared.Answer.{Answer}
 use Rattle.step_rules.specs.Step.{step_of}
 use Rattle.readings.specs.declared.Place.{Place}
-use Rattle.readings.specs.declared.Amount.{Amount}
-use Rattle.readings.specs.declared.Balance.{Balance}
-use Rattle.readings.specs.declared.Sameness.{Sameness}
-use Rattle.read_head_loss.specs.declared.Loss.{Loss}
+use Rattle.readings.specs.declared.Totals.{Totals}
+use Rattle.read_head_loss.specs.declared.Losses.{Losses}
 use Rattle.read_head_loss.specs.HeadLoss.{head_loss_of}
 use Rattle.readings.specs.Readings.{drawdown_of, budget_of, loss_of, flow_of, Listed, deep_of, same_of}
 use Rattle.read_limiting.specs.declared.Limiting.{Limiting}
@@ -33,12 +32,12 @@ pub data Call : Type 0 where
 -- what a call gives back: its answer, and what a list lent to it holds after it
 pub data Reply : Type 0 where
   stepped : Answer → Reply
-  amount : Amount → Reply
-  balance : Balance → Reply
+  amount : Result ℤ Refusal → Reply
+  balance : Result Totals Refusal → Reply
   listed : Listed → Reply
-  compared : Sameness → Reply
-  losses : Loss → Reply
-  limited : Limiting → Reply
+  compared : Result Bool Refusal → Reply
+  losses : Result Losses Refusal → Reply
+  limited : Result Limiting Refusal → Reply
 
 -- what a call on the record r gives back
 unfoldable pub reply_to : Record → Call → Reply

@@ -1,13 +1,13 @@
 -- The ledger of a run (document 01, 'The ledger of a run'): kept from the scenario text and the calls' arguments, and from no record.
 -- Units: V, totals and water nl; D µm; times µs.
-use Rattle.std.specs.Prelude.{cond, ◌&&◌, Bool, List, [], ◌∷◌, ℕ, ◌*◌, ℤ, eqb}
+use Rattle.std.specs.Prelude.{cond, ◌&&◌, Bool, List, [], ◌∷◌, ℕ, ◌*◌, ℤ, eqb, Result}
+use Rattle.refusals.specs.Refusals.{outcome_of}
+use Rattle.refusals.specs.declared.Refusal.{Refusal}
 use Rattle.laws.specs.Lists.{larger, sumℕ, sumℤ}
 use Rattle.network.specs.Network.{Network, State, at_rest, is_place, drawdown, flow, inward, moved, refusal}
 use Rattle.network.specs.Grid.{Grid, network_of}
 use Rattle.coefficients.specs.Coefficients.{scenario_grid}
 use Rattle.scenario.specs.Scenario.{scenario_of}
-use Rattle.record.specs.declared.Outcome.{Outcome}
-use Rattle.record.specs.Record.{outcome_of}
 use Rattle.readings.specs.Readings.{set_of}
 use Rattle.ledger.specs.Calls.{Call, step, read}
 
@@ -34,7 +34,7 @@ unfoldable pub ledger_of : List ℕ → List Call → State
 ledger_of text calls = after_calls (network_from text) (at_rest (network_from text)) calls
 
 -- the outcome of each step call
-unfoldable pub outcomes_from : Network → State → List Call → List Outcome
+unfoldable pub outcomes_from : Network → State → List Call → List (Result Unit Refusal)
 outcomes_from N s [] = []
 outcomes_from N s (step rate dt ∷ cs) = outcome_of (refusal N s rate dt) ∷ outcomes_from N (after_call N s (step rate dt)) cs
 outcomes_from N s (read q ∷ cs) = outcomes_from N s cs

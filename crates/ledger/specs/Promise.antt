@@ -1,11 +1,11 @@
 -- Demand 3: what holds before the first call of a run and after each. A list of calls cut short is a list of calls, and so is the empty one, so a
 -- statement about every list says it of every moment of a run.
-use Rattle.std.specs.Prelude.{◌≡◌, true, List, [], ◌∷◌, ℕ, ltb, pos, ◌-ℤ◌, length, ◌≤ℤ◌}
+use Rattle.std.specs.Prelude.{◌≡◌, true, List, [], ◌∷◌, ℕ, ltb, pos, ◌-ℤ◌, length, ◌≤ℤ◌, Result}
+use Rattle.refusals.specs.declared.Refusal.{Refusal}
 use Rattle.laws.specs.Lists.{ifℤ}
 use Rattle.network.specs.Network.{at_rest, loss_at, drawdown, loss_in}
 use Rattle.network.specs.Grid.{place_count}
 use Rattle.record.specs.declared.Record.{Record}
-use Rattle.record.specs.declared.Outcome.{Outcome}
 use Rattle.record.specs.Record.{state_of}
 use Rattle.validity.specs.Validity.{valid}
 use Rattle.scenario.specs.Scenario.{scenario_of}
@@ -16,7 +16,7 @@ use Rattle.ledger.specs.Ledger.{grid_from, network_from, ledger_of, outcomes_fro
 use Rattle.ledger.specs.Told.{Told}
 
 -- the outcomes among the replies of a run, one for each step call
-unfoldable pub outcomes_in : List Reply → List Outcome
+unfoldable pub outcomes_in : List Reply → List (Result Unit Refusal)
 outcomes_in [] = []
 outcomes_in (stepped answer ∷ rs) = answer.outcome ∷ outcomes_in rs
 outcomes_in (amount a ∷ rs) = outcomes_in rs

@@ -3,13 +3,14 @@
 -- handed in for comparison.
 -- Units: D µm; V, totals and water nl; Δt µs; inflow l/s, head losses m.
 use Rattle.std.specs.Prelude.{◌≡◌, not, ◌||◌, List, [], ◌∷◌, ◌++◌, ◌-◌, eqb, ltb, length}
+use Rattle.refusals.specs.Refusals.{outcome_of}
 use Rattle.laws.specs.Lists.{first}
 use Rattle.network.specs.Network.{Network, State, loss_in, length_out, unstable, refusal}
 use Rattle.network.specs.Network as network
 use Rattle.network.specs.Grid.{Grid, place_count, network_of}
 use Rattle.site.specs.declared.Site.{Site}
 use Rattle.record.specs.declared.Record.{Record}
-use Rattle.record.specs.Record.{state_of, outcome_of}
+use Rattle.record.specs.Record.{state_of}
 use Rattle.validity.specs.Validity.{valid}
 use Rattle.coefficients.specs.Coefficients.{scenario_grid, start_record}
 use Rattle.step_rules.specs.Step.{holding}

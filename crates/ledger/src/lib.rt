@@ -2,7 +2,7 @@
 #![tactic(auto)]
 
 ghost use Rattle.std.specs.Prelude.{◌≡◌, List, ℕ};
-ghost use Rattle.record.specs.Record.{outcome_of};
+ghost use Rattle.refusals.specs.Refusals.{outcome_of};
 ghost use Rattle.scenario.specs.Scenario.{start_of};
 ghost use Rattle.ledger.specs.Calls.{Call, left_by_all, replies_to};
 ghost use Rattle.ledger.specs.Promise.{Holds};

@@ -13,6 +13,7 @@ use native.Mathlib.Omega.{arith}
 use lib.Dec.{ltb}
 use lib.IntN.{ℤ, pos, neg_ℤ, nat_abs, ◌+ℤ◌, ◌-ℤ◌, +ℤ_idl, neg_ℤ-+ℤ, neg_ℤ-neg_ℤ, +ℤ-neg_ℤ_cancel}
 use lib.Signed.{lt_z, ◌≤ℤ◌, ≤ℤ_refl, lt_z_yes, clash_ℤ}
+use Rattle.refusals.specs.Refusals.{outcome_of}
 use borrow.Author.Tests.{eqb-true, lt-ltb, not-false}
 use Rattle.laws.specs.All.{and_left, and_right}
 use Rattle.laws.specs.Integer.{regroup, natural, pos_≤ℤ, ≤ℤ_trans, ≤ℤ_antisym, larger_bounds}
@@ -24,7 +25,7 @@ use Rattle.network.specs.Kept.{Proper}
 use Rattle.network.proofs.laws.Bounds.{depth_natural, inflow_rises, depths_after}
 use Rattle.network.proofs.laws.Preserve.{accepted}
 use Rattle.record.specs.declared.Record.{Record}
-use Rattle.record.specs.Record.{grid_of, state_of, outcome_of, answer_of}
+use Rattle.record.specs.Record.{grid_of, state_of, answer_of}
 use Rattle.record.specs.Laws.{refusal_of}
 use Rattle.validity.specs.Validity.{valid}
 use Rattle.validity.specs.Laws.{Valid, valid_record, valid_proper}

@@ -3,11 +3,12 @@
 -- Units: D and mark µm; losses and totals nl; Δt µs.
 use Rattle.std.specs.Prelude.{◌≡◌, Bool, true, ℕ, ℤ, neg_ℤ, ◌+ℤ◌, ◌-ℤ◌, eqb, ◌≤ℤ◌}
 use mathlib.Core.List.{List, [], ◌∷◌, map, flat_map}
+use Rattle.refusals.specs.Refusals.{outcome_of}
 use Rattle.laws.specs.Lists.{larger}
 use Rattle.network.specs.Network.{drawdown}
 use Rattle.network.specs.Grid.{Grid, stored_columns, layers_of, place, network_of}
 use Rattle.record.specs.declared.Record.{Record}
-use Rattle.record.specs.Record.{grid_of, state_of, outcome_of}
+use Rattle.record.specs.Record.{grid_of, state_of}
 use Rattle.step_rules.specs.Step.{step_of}
 use Rattle.readings.specs.declared.Place.{Place}
 use Rattle.readings.specs.declared.Totals.{Totals}

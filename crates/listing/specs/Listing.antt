@@ -1,15 +1,14 @@
 -- The listing of a scenario text (document 01, the last paragraph of 'A step'), whole and piece by piece.
-use Rattle.std.specs.Prelude.{Bool, true, false, List, [], ◌∷◌, ◌++◌, map, ℕ, zero, suc, take}
+use Rattle.std.specs.Prelude.{Bool, true, false, List, [], ◌∷◌, ◌++◌, map, ℕ, zero, suc, take, Ok, Err}
 use Rattle.laws.specs.Lists.{range}
 use Rattle.limits.specs.Limits.{entry_limit}
+use Rattle.refusals.specs.Refusals.{number_of}
 use Rattle.decimal.specs.Decimal.{digits_of}
 use Rattle.text.specs.Text.{numbers}
 use Rattle.sections.specs.declared.Entry.{Entry}
 use Rattle.sections.specs.Sections.{entries_of, entry_at}
 use Rattle.record.specs.declared.Record.{Record}
 use Rattle.record.specs.declared.Answer.{Answer}
-use Rattle.record.specs.declared.Outcome.{Outcome}
-use Rattle.scenario.specs.declared.Pumping.{Pumping}
 use Rattle.scenario.specs.Scenario.{start_of, entry_of}
 use Rattle.listing_lines.specs.declared.Line.{Line}
 use Rattle.listing_lines.specs.Word.{word}
@@ -46,8 +45,8 @@ lines_of n (e ∷ es) r = entry_line n (entry_run r e) ++ lines_of (suc n) es (e
 unfoldable pub listing_of : List ℕ → List ℕ
 listing_of text =
     elim (start_of text).outcome [
-      | Outcome.Taken ↦ header_line ++ lines_of 1 (pumping_in text) (start_of text).«record»
-      | Outcome.Refused k ↦ scenario_line k
+      | Ok u ↦ header_line ++ lines_of 1 (pumping_in text) (start_of text).«record»
+      | Err k ↦ scenario_line (number_of k)
     ]
 
 -- ---- the listing piece by piece
@@ -60,8 +59,8 @@ piece l r ended = record { line = held l; «record» = r; ended = ended }
 unfoldable pub opened : Answer → Piece
 opened a =
     elim a.outcome [
-      | Outcome.Taken ↦ piece header_line a.«record» false
-      | Outcome.Refused k ↦ piece (scenario_line k) a.«record» true
+      | Ok u ↦ piece header_line a.«record» false
+      | Err k ↦ piece (scenario_line (number_of k)) a.«record» true
     ]
 
 unfoldable pub opening_of : List ℕ → Piece
@@ -71,8 +70,8 @@ opening_of text = opened (start_of text)
 unfoldable pub next_of : List ℕ → Record → ℕ → Piece
 next_of text r done =
     elim (entry_of text (suc done)) [
-      | Pumping.Found e ↦ piece (entry_line (suc done) (entry_run r e)) (entry_run r e).«record» false
-      | Pumping.Refused k ↦ piece [] r true
+      | Ok e ↦ piece (entry_line (suc done) (entry_run r e)) (entry_run r e).«record» false
+      | Err k ↦ piece [] r true
     ]
 
 -- ---- what a program prints of them

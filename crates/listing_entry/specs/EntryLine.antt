@@ -1,12 +1,11 @@
 -- The line of a pumping entry, as bytes (document 01, the last paragraph of 'A step').
-use Rattle.std.specs.Prelude.{List, [], ◌∷◌, ℕ, ℤ}
+use Rattle.std.specs.Prelude.{List, [], ◌∷◌, ℕ, ℤ, Result, Ok, Err}
+use Rattle.refusals.specs.declared.Refusal.{Refusal}
+use Rattle.refusals.specs.Refusals.{number_of}
 use Rattle.decimal.specs.Decimal.{digits_of}
 use Rattle.record.specs.declared.Answer.{Answer}
-use Rattle.record.specs.declared.Outcome.{Outcome}
 use Rattle.readings.specs.declared.Place.{Place}
-use Rattle.readings.specs.declared.Amount.{Amount}
 use Rattle.readings.specs.declared.Totals.{Totals}
-use Rattle.readings.specs.declared.Balance.{Balance}
 use Rattle.readings.specs.Readings.{drawdown_of, budget_of}
 use Rattle.listing_lines.specs.Word.{word}
 use Rattle.listing_lines.specs.Lines.{line_from, figure_of}
@@ -29,15 +28,15 @@ figures_line n time well t =
     ∷ [])
 
 -- the line from what the readings answer; a refused reading stands in its place
-unfoldable pub readings_line : ℕ → ℕ → Amount → Balance → List ℕ
-readings_line n time (Amount.Given well) (Balance.Given t) = figures_line n time well t
-readings_line n time (Amount.Given well) (Balance.Refused k) = refused_line n k
-readings_line n time (Amount.Refused k) b = refused_line n k
+unfoldable pub readings_line : ℕ → ℕ → Result ℤ Refusal → Result Totals Refusal → List ℕ
+readings_line n time (Ok well) (Ok t) = figures_line n time well t
+readings_line n time (Ok well) (Err k) = refused_line n (number_of k)
+readings_line n time (Err k) b = refused_line n (number_of k)
 
 -- the line of entry n after its run
 unfoldable pub entry_line : ℕ → Answer → List ℕ
 entry_line n a =
     elim a.outcome [
-      | Outcome.Taken ↦ readings_line n a.«record».time (drawdown_of a.«record» Place.Well) (budget_of a.«record»)
-      | Outcome.Refused k ↦ refused_line n k
+      | Ok u ↦ readings_line n a.«record».time (drawdown_of a.«record» Place.Well) (budget_of a.«record»)
+      | Err k ↦ refused_line n (number_of k)
     ]

@@ -11,12 +11,13 @@ use Rattle.laws.specs.Lists.{every}
 use Rattle.laws.specs.Refusal.{passed, first_most}
 use Rattle.laws.specs.Sums.{or_no}
 use Rattle.limits.specs.Limits.{rate_limit, length_limit}
+use Rattle.refusals.specs.Refusals.{outcome_of}
 use Rattle.network.specs.Network.{moved, length_out, rate_or_length_out, step_tests}
 use Rattle.network.specs.Grid.{network_of}
 use Rattle.record.specs.declared.Record.{Record}
 use Rattle.record.specs.declared.Answer.{Answer}
 use Rattle.record.specs.declared.Outcome.{Outcome}
-use Rattle.record.specs.Record.{grid_of, state_of, outcome_of, answer_of, repeated_of}
+use Rattle.record.specs.Record.{grid_of, state_of, answer_of, repeated_of}
 use Rattle.validity.specs.Validity.{valid}
 use Rattle.step_rules.specs.Step.{with_state, step_refusal, step_of}
 use Rattle.record.specs.declared.Repeated.{Repeated}

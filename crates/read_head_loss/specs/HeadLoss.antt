@@ -1,7 +1,9 @@
 -- Head loss of one screened layer of a record (document 01, 'Readings', last paragraph).
 -- The formulas stand in hydraulics, the layers along the pipe in pipe.
 -- Lengths are mm, water nl, Δt µs, flows l/s, velocities m/s, head losses m.
-use Rattle.std.specs.Prelude.{Bool, not, ◌&&◌, List, [], ◌∷◌, ℕ, zero, suc, ◌-◌, Float, ℤ, neg_ℤ, get_or}
+use Rattle.std.specs.Prelude.{Bool, not, ◌&&◌, List, [], ◌∷◌, ℕ, ◌-◌, Float, ℤ, neg_ℤ, get_or, Result}
+use Rattle.refusals.specs.declared.Refusal.{Refusal}
+use Rattle.refusals.specs.Refusals.{given}
 use Rattle.laws.specs.Lists.{first}
 use Rattle.network.specs.Network.{flow, length_out, unstable}
 use Rattle.network.specs.Grid.{Grid, across_face, network_of}
@@ -13,7 +15,6 @@ use Rattle.readings.specs.Readings.{is_layer}
 use Rattle.hydraulics.specs.Hydraulics.{inflow_of, wall_velocity, law_of, screen_loss}
 use Rattle.pipe.specs.Pipe.{pipe_loss_at}
 use Rattle.read_head_loss.specs.declared.Losses.{Losses}
-use Rattle.read_head_loss.specs.declared.Loss.{Loss}
 
 -- ---- the flow of a layer
 
@@ -31,11 +32,6 @@ losses_at s e i = record {
   pipe_loss = pipe_loss_at s e i;
 }
 
--- the answer, by the number of the first refusal, 0 for none: the three figures, or the number and nothing else
-unfoldable pub loss_answer_of : ℕ → Losses → Loss
-loss_answer_of zero l = Loss.Given l
-loss_answer_of (suc n) l = Loss.Refused (suc n)
-
 -- a layer that a caller names, from 1, is one of the layers and is screened
 unfoldable pub is_screened_layer : Grid → ℕ → Bool
 is_screened_layer G layer = is_layer G layer && G.screened (layer - 1)
@@ -51,7 +47,7 @@ head_loss_refusal r layer dt =
     ∷ [])
 
 -- head loss of a layer, from 1, for a step Δt not taken
-unfoldable pub head_loss_of : Record → ℕ → ℕ → Loss
+unfoldable pub head_loss_of : Record → ℕ → ℕ → Result Losses Refusal
 head_loss_of r layer dt =
-    loss_answer_of (head_loss_refusal r layer dt)
+    given (head_loss_refusal r layer dt)
     (losses_at r.site (λ i. inflow_of (water_into (grid_of r) (state_of r).losses dt i) dt) (layer - 1))

@@ -3,13 +3,14 @@
 --     answer_14, answer_8, answer_10, answer_11, answer_nothing
 use mathlib.Core.Path.{◌≡◌, refl, sym, ap, ◌∙◌}
 use Prim.Native.Nat.{ℕ}
+use Rattle.refusals.specs.Refusals.{outcome_of}
 use borrow.Author.Tests.{ne_eqb}
 use Rattle.network.specs.Network.{losses_after}
 use Rattle.network.specs.Grid.{network_of}
 use Rattle.record.specs.declared.Record.{Record}
 use Rattle.record.specs.declared.Answer.{Answer}
 use Rattle.record.specs.declared.Outcome.TheVariants.{Taken, Refused}
-use Rattle.record.specs.Record.{grid_of, state_of, outcome_of}
+use Rattle.record.specs.Record.{grid_of, state_of}
 use Rattle.record.specs.Laws.{refusal_of, taken_of}
 use Rattle.step_rules.specs.Step.{step_refusal, step_of}
 use Rattle.step_rules.specs.Laws.{step_outcome}

@@ -20,13 +20,14 @@ use Rattle.laws.specs.Lists.{range}
 use Rattle.laws.specs.Number.{below_or_not}
 use Rattle.laws.specs.Sums.{none, range_mem}
 use Rattle.limits.specs.Limits.{rate_limit, length_limit}
+use Rattle.refusals.specs.Refusals.{outcome_of}
 use Rattle.network.specs.Network.{Network, storage_at, drawdown, losses_after, conductance_sum, stable, unstable, length_out, rate_or_length_out, well_too_deep, table_too_deep}
 use Rattle.network.specs.Grid.{Grid, place, place_count, stored_columns, one_per_place, network_of}
 use Rattle.network.proofs.laws.Places.{by_place, get_or_one}
 use Rattle.site.specs.Laws.{counts_hold_lem}
 use Rattle.site.specs.Limited.{Counts}
 use Rattle.record.specs.declared.Record.{Record}
-use Rattle.record.specs.Record.{grid_of, state_of, outcome_of}
+use Rattle.record.specs.Record.{grid_of, state_of}
 use Rattle.record.specs.Laws.{refusal_of, refused_of}
 use Rattle.validity.specs.Validity.{valid}
 use Rattle.validity.specs.Laws.{Valid, valid_record, valid_proper}

@@ -1,7 +1,8 @@
 -- What would hold back a step not taken (document 02, N12): the answer of `limiting_place`, by the number that `step` would answer.
 -- Units: C 10^-12 m²/s; S nl per m; V nl; D µm; lengths of steps µs; rates ml/s.
-use Rattle.std.specs.Prelude.{Bool, cond, not, ◌&&◌, ◌||◌, List, ℕ, zero, suc, ◌+◌, ◌*◌, ◌-◌, ◌/◌, ◌^◌, eqb, ltb, ℤ, get_or}
+use Rattle.std.specs.Prelude.{Bool, cond, not, ◌&&◌, ◌||◌, List, ℕ, zero, suc, ◌+◌, ◌*◌, ◌-◌, ◌/◌, ◌^◌, eqb, ltb, ℤ, get_or, Result, Ok, Err}
 use Rattle.std.specs.Int.Signed.{lt_z}
+use Rattle.refusals.specs.declared.Refusal.{Refusal}
 use Rattle.network.specs.Network.{Network, storage_at, drawdown, losses_after, conductance_sum}
 use Rattle.network.specs.Grid.{Grid, place, one_per_place, network_of}
 use Rattle.record.specs.declared.Record.{Record}
@@ -59,14 +60,14 @@ unfoldable pub past_bottom_in : Grid → List ℤ → Limiting
 past_bottom_in G vs = Limiting.PastBottom (Cell 1 (deepest_column G vs))
 
 -- the answer to a step of dt at this rate that is refused with the number n, or taken where n is 0; vs are the losses at its start
-unfoldable pub limiting_in : Grid → List ℤ → ℕ → ℕ → ℕ → Limiting
+unfoldable pub limiting_in : Grid → List ℤ → ℕ → ℕ → ℕ → Result Limiting Refusal
 limiting_in G vs rate dt n =
-    cond (eqb n 14) (Limiting.Refused 14)
-    (cond (eqb n 8) (too_long_in G)
+    cond (eqb n 14) (Err Refusal.Record)
+    (Ok (cond (eqb n 8) (too_long_in G)
     (cond (eqb n 10) (Limiting.PastIntake Well)
     (cond (eqb n 11) (past_bottom_in G (losses_after (network_of G) vs rate dt))
-    Limiting.Nothing)))
+    Limiting.Nothing))))
 
 -- of a record, by the number that `step` would answer
-unfoldable pub limiting_of : Record → ℕ → ℕ → Limiting
+unfoldable pub limiting_of : Record → ℕ → ℕ → Result Limiting Refusal
 limiting_of r rate dt = limiting_in (grid_of r) (state_of r).losses rate dt (step_refusal r rate dt)

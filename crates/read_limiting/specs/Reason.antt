@@ -1,11 +1,13 @@
 -- The true reason (document 02, N12): what holds of the answer to a step of dt at a rate on a record, in terms of what `step` answers and of the tests that it
 -- judges by.
 -- Units: D µm; lengths of steps µs; rates ml/s.
-use Rattle.std.specs.Prelude.{◌≡◌, Bool, true, false, ◌⊎◌, ℕ, suc, ◌*◌, ◌^◌, ◌<◌, leb, ℤ, pos, ◌≤ℤ◌, ◌<ℤ◌}
+use Rattle.std.specs.Prelude.{◌≡◌, Bool, true, false, ◌⊎◌, ℕ, suc, ◌*◌, ◌^◌, ◌<◌, leb, ℤ, pos, ◌≤ℤ◌, ◌<ℤ◌, Result, Ok, Err}
+use Rattle.refusals.specs.Refusals.{outcome_of, number_of}
+use Rattle.refusals.specs.declared.Refusal.{Refusal}
 use Rattle.network.specs.Network.{Network, storage_at, drawdown, losses_after, conductance_sum, unstable}
 use Rattle.network.specs.Grid.{Grid, network_of}
 use Rattle.record.specs.declared.Record.{Record}
-use Rattle.record.specs.Record.{grid_of, state_of, outcome_of}
+use Rattle.record.specs.Record.{grid_of, state_of}
 use Rattle.step_rules.specs.Step.{step_of}
 use Rattle.readings.specs.declared.Place.{Place}
 use Rattle.readings.specs.declared.Place.TheVariants.{Well, Cell}
@@ -13,13 +15,13 @@ use Rattle.readings.specs.Readings.{is_named, number_of}
 use Rattle.read_limiting.specs.declared.Limiting.{Limiting}
 use Rattle.read_limiting.specs.Limiting.{limiting_of}
 
--- the refusal of which an answer gives the place, or 14, or 0 for nothing of this kind
-unfoldable pub number_in : Limiting → ℕ
-number_in (Limiting.TooLong p n) = 8
-number_in (Limiting.PastIntake p) = 10
-number_in (Limiting.PastBottom p) = 11
-number_in Limiting.Nothing = 0
-number_in (Limiting.Refused n) = n
+-- the refusal of which an answer gives the place, or that of the record, or 0 for nothing of this kind
+unfoldable pub number_in : Result Limiting Refusal → ℕ
+number_in (Ok (Limiting.TooLong p n)) = 8
+number_in (Ok (Limiting.PastIntake p)) = 10
+number_in (Ok (Limiting.PastBottom p)) = 11
+number_in (Ok Limiting.Nothing) = 0
+number_in (Err k) = number_of k
 
 module _ (r : Record) (rate dt : ℕ) where
   abbrev G : Grid
@@ -67,13 +69,13 @@ module _ (r : Record) (rate dt : ℕ) where
   OfNothing = ((step_of r rate dt).outcome ≡ outcome_of 0) ⊎ (((step_of r rate dt).outcome ≡ outcome_of 7) ⊎ ((step_of r rate dt).outcome ≡ outcome_of 9))
 
   -- what the answer says
-  unfoldable pub Says : Limiting → Type 0
-  Says (Limiting.TooLong p n) = OfLength p n
+  unfoldable pub Says : Result Limiting Refusal → Type 0
+  Says (Ok (Limiting.TooLong p n)) = OfLength p n
   -- the well's D after the step is above 1000×p
-  Says (Limiting.PastIntake p) = (p ≡ Well) × (pos (1000 * N.intake) <ℤ depth_after p)
-  Says (Limiting.PastBottom p) = OfBottom p
-  Says Limiting.Nothing = OfNothing
-  Says (Limiting.Refused n) = n ≡ 14
+  Says (Ok (Limiting.PastIntake p)) = (p ≡ Well) × (pos (1000 * N.intake) <ℤ depth_after p)
+  Says (Ok (Limiting.PastBottom p)) = OfBottom p
+  Says (Ok Limiting.Nothing) = OfNothing
+  Says (Err k) = k ≡ Refusal.Record
 
   -- an answer of the refusal n is given exactly when `step` answers n
   abbrev pub Agrees : ℕ → Type 0
@@ -85,4 +87,4 @@ module _ (r : Record) (rate dt : ℕ) where
     pub numbers : Agrees 8 × Agrees 10 × Agrees 11 × Agrees 14
     pub says : Says (limiting_of r rate dt)
     -- and of no other answer with its number could this be said
-    pub only : (a : Limiting) → number_in a ≡ number_in (limiting_of r rate dt) → Says a → a ≡ limiting_of r rate dt
+    pub only : (a : Result Limiting Refusal) → number_in a ≡ number_in (limiting_of r rate dt) → Says a → a ≡ limiting_of r rate dt

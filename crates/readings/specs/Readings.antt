@@ -1,9 +1,11 @@
 -- The readings of a record in whole numbers (document 01, 'Readings' and 'Who brings a refusal about', as document 02 changes them).
 -- Each is judged in the order 14, 12, 13, 7 (its length part), 8, as far as it has such a condition.
-use Rattle.std.specs.Prelude.{Bool, true, false, cond, not, ◌&&◌, ◌||◌, ℕ, zero, suc, ◌+◌, ◌*◌, ◌-◌, ◌/◌, ◌%◌, ℤ, pos, neg_ℤ, eqb, leb, ltb, length, get_or, drop}
+use Rattle.std.specs.Prelude.{Bool, true, false, cond, not, ◌&&◌, ◌||◌, ℕ, zero, suc, ◌+◌, ◌*◌, ◌-◌, ◌/◌, ◌%◌, ℤ, pos, neg_ℤ, eqb, leb, ltb, length, get_or, drop, Result}
 use mathlib.Core.List.{List, [], ◌∷◌, ◌++◌, flat_map}
 use Rattle.std.specs.Int.Signed.{lt_z}
 use Rattle.limits.specs.Limits.{drawdown_limit}
+use Rattle.refusals.specs.declared.Refusal.{Refusal}
+use Rattle.refusals.specs.Refusals.{given}
 use Rattle.laws.specs.Lists.{falling, pairwise, first, ifℕ, sumℕ}
 use Rattle.network.specs.Network.{Face, Network, State, loss_at, drawdown, flow, loss_in, length_out, unstable}
 use Rattle.network.specs.Grid.{Grid, stored_columns, layers_of, place_count, place, across_face, down_face, network_of}
@@ -13,29 +15,7 @@ use Rattle.record.specs.Record.{grid_of, state_of}
 use Rattle.validity.specs.Validity.{equalℤ, valid}
 use Rattle.readings.specs.declared.Place.{Place}
 use Rattle.readings.specs.declared.Place.TheVariants.{Well, Cell}
-use Rattle.readings.specs.declared.Amount.{Amount}
 use Rattle.readings.specs.declared.Totals.{Totals}
-use Rattle.readings.specs.declared.Balance.{Balance}
-use Rattle.readings.specs.declared.Count.{Count}
-use Rattle.readings.specs.declared.Sameness.{Sameness}
-
--- ---- answers, by the number of the first refusal, 0 for none: the value, or the number and nothing else
-
-unfoldable pub amount_of : ℕ → ℤ → Amount
-amount_of zero x = Amount.Given x
-amount_of (suc n) x = Amount.Refused (suc n)
-
-unfoldable pub balance_of : ℕ → Totals → Balance
-balance_of zero t = Balance.Given t
-balance_of (suc n) t = Balance.Refused (suc n)
-
-unfoldable pub count_of : ℕ → ℕ → Count
-count_of zero n = Count.Given n
-count_of (suc n) k = Count.Refused (suc n)
-
-unfoldable pub sameness_of : ℕ → Bool → Sameness
-sameness_of zero t = Sameness.Given t
-sameness_of (suc n) t = Sameness.Refused (suc n)
 
 -- ---- places ('Geometry to coefficients' has the term)
 
@@ -58,9 +38,9 @@ number_of G (Cell i j) = place G (i - 1) j
 
 -- ---- drawdown at a place, µm
 
-unfoldable pub drawdown_of : Record → Place → Amount
+unfoldable pub drawdown_of : Record → Place → Result ℤ Refusal
 drawdown_of r p =
-    amount_of (first ((not (valid r), 14) ∷ (not (is_named (grid_of r) p), 12) ∷ []))
+    given (first ((not (valid r), 14) ∷ (not (is_named (grid_of r) p), 12) ∷ []))
     (drawdown (network_of (grid_of r)) (state_of r).losses (number_of (grid_of r) p))
 
 -- ---- budget, nl: pumped total, well's loss, all cells' loss, inflow total; and the mark, µm (N1)
@@ -74,8 +54,8 @@ totals_in N s mark = record {
   mark = mark;
 }
 
-unfoldable pub budget_of : Record → Balance
-budget_of r = balance_of (first ((not (valid r), 14) ∷ [])) (totals_in (network_of (grid_of r)) (state_of r) r.mark)
+unfoldable pub budget_of : Record → Result Totals Refusal
+budget_of r = given (first ((not (valid r), 14) ∷ [])) (totals_in (network_of (grid_of r)) (state_of r) r.mark)
 
 -- ---- storage loss of a set, nl
 
@@ -83,9 +63,9 @@ budget_of r = balance_of (first ((not (valid r), 14) ∷ [])) (totals_in (networ
 unfoldable pub set_of : List ℕ → ℕ → Bool
 set_of bytes p = not (eqb (get_or bytes p 0) 0)
 
-unfoldable pub loss_of : Record → List ℕ → Amount
+unfoldable pub loss_of : Record → List ℕ → Result ℤ Refusal
 loss_of r bytes =
-    amount_of (first ((not (valid r), 14) ∷ (not (eqb (length bytes) (place_count (grid_of r))), 13) ∷ []))
+    given (first ((not (valid r), 14) ∷ (not (eqb (length bytes) (place_count (grid_of r))), 13) ∷ []))
     (loss_in (network_of (grid_of r)) (set_of bytes) (state_of r).losses)
 
 -- ---- flow of one face, nl, for a step Δt not taken
@@ -110,9 +90,9 @@ unfoldable pub water_from : Grid → List ℤ → ℕ → Place → Place → �
 water_from G vs dt a b =
     cond (leads G a b) (flow (network_of G) vs dt (face_from G a b)) (neg_ℤ (flow (network_of G) vs dt (face_from G b a)))
 
-unfoldable pub flow_of : Record → Place → Place → ℕ → Amount
+unfoldable pub flow_of : Record → Place → Place → ℕ → Result ℤ Refusal
 flow_of r a b dt =
-    amount_of (first (
+    given (first (
     (not (valid r), 14)
     ∷ (not (leads (grid_of r) a b || leads (grid_of r) b a), 12)
     ∷ (length_out dt, 7)
@@ -159,14 +139,14 @@ deep_codes r D = deep_codes_in (grid_of r) (state_of r).losses D
 
 -- the answer, and what a lent list holds after it
 pub record Listed : Type 0 where
-  pub answer : Count
+  pub answer : Result ℕ Refusal
   pub list : List ℕ
 
 -- by the number of the first refusal, 0 for none: the count of the cells, and their codes in the first slots of the list, the others as in `old`, the list
 -- before; or the number, and `old`
 unfoldable pub listed_of : ℕ → ℕ → List ℕ → List ℕ → Listed
-listed_of zero count codes old = record { answer = count_of zero count; list = codes ++ drop (length codes) old }
-listed_of (suc n) count codes old = record { answer = count_of (suc n) count; list = old }
+listed_of zero count codes old = record { answer = given zero count; list = codes ++ drop (length codes) old }
+listed_of (suc n) count codes old = record { answer = given (suc n) count; list = old }
 
 unfoldable pub deep_of : Record → ℕ → List ℕ → Listed
 deep_of r D old = listed_of (deep_refusal r D (length old)) (deep_count r D) (deep_codes r D) old
@@ -213,5 +193,5 @@ same_water r q =
 unfoldable pub same_record : Record → Record → Bool
 same_record r q = same_site r.site q.site && same_coefficients r q && same_water r q
 
-unfoldable pub same_of : Record → Record → Sameness
-same_of r q = sameness_of (first ((not (valid r), 14) ∷ (not (valid q), 14) ∷ [])) (same_record r q)
+unfoldable pub same_of : Record → Record → Result Bool Refusal
+same_of r q = given (first ((not (valid r), 14) ∷ (not (valid q), 14) ∷ [])) (same_record r q)

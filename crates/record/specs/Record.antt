@@ -2,6 +2,7 @@
 use Rattle.std.specs.Prelude.{Bool, ◌&&◌, List, map, ℕ, zero, suc, ◌+◌, ◌*◌, ◌-◌, ◌/◌, ◌%◌, pos, ltb, get_or, replicate}
 use Rattle.laws.specs.Lists.{range}
 use Rattle.limits.specs.Limits.{layer_places, column_places, coefficient_places, cell_places}
+use Rattle.refusals.specs.Refusals.{outcome_of}
 use Rattle.network.specs.Network.{State}
 use Rattle.network.specs.Grid.{Grid, one_per_place}
 use Rattle.site.specs.declared.Site.{Site}
@@ -9,9 +10,7 @@ use Rattle.site.specs.Columns.{area_at}
 use Rattle.site.specs.Site.{is_screened}
 use Rattle.record.specs.declared.Record.{Record}
 use Rattle.record.specs.declared.Answer.{Answer}
-use Rattle.record.specs.declared.Outcome.{Outcome}
 use Rattle.record.specs.declared.Repeated.{Repeated}
-use Rattle.record.specs.declared.Outcome.TheVariants.{Taken, Refused}
 
 -- ---- slots
 -- the slot of the cell of layer i and column j in an array by cell
@@ -105,11 +104,7 @@ state_of r = record {
 }
 
 -- ---- the answer, by the number of the first refusal, 0 for none
-unfoldable pub outcome_of : ℕ → Outcome
-outcome_of zero = Taken
-outcome_of (suc n) = Refused (suc n)
-
--- refused: the number and the record `old`; taken: the record `new`
+-- refused: that refusal and the record `old`; taken: the record `new`
 unfoldable pub answer_of : ℕ → Record → Record → Answer
 answer_of zero old new = record { outcome = outcome_of zero; «record» = new }
 answer_of (suc n) old new = record { outcome = outcome_of (suc n); «record» = old }

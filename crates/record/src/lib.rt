@@ -5,6 +5,7 @@ ghost use Rattle.std.specs.Prelude.{◌≡◌};
 ghost use Rattle.record.specs.Record.{zero_record};
 
 use limits::{CELL_PLACES, COEFFICIENT_PLACES, COLUMN_PLACES, LAYER_PLACES};
+use refusals::Refusal;
 use site::Site;
 
 // Slot 50×i + j of an array of 1,000 is for layer i + 1 and column j + 1 of document 01: one slot for each cell, also for its face with
@@ -26,23 +27,17 @@ pub struct Record {
     pub mark: i64, // deepest mark (document 02, N1): the largest D of the well since start, µm
 }
 
-// What became of a scenario text or a step.
-#[derive(Clone, Copy)]
-pub enum Outcome {
-    Taken,
-    Refused(u64),
-}
-
+// What became of a scenario text or a step, Ok where it was taken, and the record.
 #[derive(Clone, Copy)]
 pub struct Answer {
-    pub outcome: Outcome,
+    pub outcome: Result<(), Refusal>,
     pub record: Record,
 }
 
 // What became of many steps: taken, or the refusal that ended them; the record after those before it, and how many these were.
 #[derive(Clone, Copy)]
 pub struct Repeated {
-    pub outcome: Outcome,
+    pub outcome: Result<(), Refusal>,
     pub record: Record,
     pub taken: u64,
 }

@@ -3,6 +3,7 @@ use mathlib.Core.Path.{◌≡◌, refl, sym, ap, ◌∙◌}
 use mathlib.Core.Bool.{Bool, true, false, not, ◌&&◌}
 use mathlib.Core.List.{List, ◌∷◌}
 use Prim.Native.Nat.{ℕ, zero, suc, ◌-◌, ◌≤◌, ◌<◌}
+use Rattle.refusals.specs.Refusals.{outcome_of}
 use borrow.Author.Tests.{eq-eqb, ne_eqb, lt-ltb, le-ltb}
 use Rattle.laws.specs.Lists.{every, first}
 use Rattle.laws.specs.Refusal.{First, none, hit, skip, first_is, first_before, first-after, numbered, numbered_append}
@@ -18,7 +19,7 @@ use Rattle.coefficients.specs.Coefficients.{scenario_grid, start_record, coeffic
 use Rattle.record.specs.declared.Record.{Record}
 use Rattle.record.specs.declared.Answer.{Answer}
 use Rattle.record.specs.declared.Outcome.TheVariants.{Taken, Refused}
-use Rattle.record.specs.Record.{zero_record, outcome_of, answer_of}
+use Rattle.record.specs.Record.{zero_record, answer_of}
 use Rattle.record.specs.Laws.{outcome_of_lem, refusal_of, taken_of}
 use Rattle.scenario.specs.declared.Pumping.{Pumping}
 use Rattle.scenario.specs.Scenario.{scenario_of, number_tests, text_tests, text_refusal, start_of, pumping_of, entry_tests, entry_of}

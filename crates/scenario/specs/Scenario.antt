@@ -1,5 +1,7 @@
 -- What start and pumping_entry answer to a text (document 01, 'The scenario text' and 'Who brings a refusal about'). A text is the list of its bytes.
-use Rattle.std.specs.Prelude.{Bool, not, ◌&&◌, ◌||◌, List, [], ◌∷◌, ◌++◌, ℕ, zero, suc, ◌-◌, eqb, ltb}
+use Rattle.std.specs.Prelude.{Bool, not, ◌&&◌, ◌||◌, List, [], ◌∷◌, ◌++◌, ℕ, ◌-◌, eqb, ltb, Result}
+use Rattle.refusals.specs.declared.Refusal.{Refusal}
+use Rattle.refusals.specs.Refusals.{given}
 use Rattle.laws.specs.Lists.{first}
 use Rattle.text.specs.Text.{well_formed, numbers}
 use Rattle.site.specs.declared.Site.{Site}
@@ -10,8 +12,6 @@ use Rattle.record.specs.declared.Answer.{Answer}
 use Rattle.record.specs.Record.{zero_record, answer_of}
 use Rattle.coefficient_slots.specs.Slots.{coefficients_hold}
 use Rattle.coefficients.specs.Coefficients.{scenario_grid, start_record}
-use Rattle.scenario.specs.declared.Pumping.{Pumping}
-use Rattle.scenario.specs.declared.Pumping.TheVariants.{Found, Refused}
 
 -- the scenario's numbers: those of the first four sections
 unfoldable pub scenario_of : List ℕ → Site
@@ -39,15 +39,10 @@ text_refusal text = first (text_tests text)
 unfoldable pub start_of : List ℕ → Answer
 start_of text = answer_of (text_refusal text) zero_record (start_record (scenario_of text))
 
--- an entry's answer: the entry, or the number of the refusal
-unfoldable pub pumping_of : ℕ → Entry → Pumping
-pumping_of zero entry = Found entry
-pumping_of (suc n) entry = Refused (suc n)
-
 -- 12: no such entry; they count from 1
 unfoldable pub entry_tests : List ℕ → ℕ → List (Bool × ℕ)
 entry_tests ns n = (eqb n 0 || ltb (entries_of ns) n, 12) ∷ []
 
 -- pumping entry n: first the text's own 1 to 6, then 12
-unfoldable pub entry_of : List ℕ → ℕ → Pumping
-entry_of text n = pumping_of (first (text_tests text ++ entry_tests (numbers text) n)) (entry_at (numbers text) (n - 1))
+unfoldable pub entry_of : List ℕ → ℕ → Result Entry Refusal
+entry_of text n = given (first (text_tests text ++ entry_tests (numbers text) n)) (entry_at (numbers text) (n - 1))

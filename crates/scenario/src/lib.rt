@@ -2,12 +2,13 @@
 #![tactic(auto)]
 
 ghost use Rattle.std.specs.Prelude.{◌≡◌, true, List, ℕ, ◌-◌, ◌<◌};
+ghost use Rattle.refusals.specs.Refusals.{outcome_of};
 ghost use Rattle.laws.specs.Lists.{first};
 ghost use Rattle.text.specs.Text.{numbers};
 ghost use Rattle.site.specs.Site.{counts_hold};
 ghost use Rattle.sections.specs.Reading.{Reads};
 ghost use Rattle.sections.specs.Sections.{entry_at};
-ghost use Rattle.record.specs.Record.{zero_record, outcome_of, answer_of};
+ghost use Rattle.record.specs.Record.{zero_record, answer_of};
 ghost use Rattle.coefficients.specs.Coefficients.{start_record};
 ghost use Rattle.scenario.specs.Scenario.{number_tests, text_refusal, start_of, pumping_of, entry_tests, entry_of};
 

@@ -19,6 +19,7 @@ use Rattle.laws.specs.Pointwise.{every_from}
 use Rattle.laws.specs.Refusal.{passed, first_none, first-after}
 use Rattle.laws.specs.Rows.{both_hold, all_from}
 use Rattle.limits.specs.Limits.{layer_places, column_places, coefficient_places, cell_places}
+use Rattle.refusals.specs.Refusals.{outcome_of}
 use Rattle.network.specs.Network.{Network, State, at_rest}
 use Rattle.network.specs.Grid.{network_of}
 use Rattle.network.proofs.laws.Preserve.{depth-at_rest, kept_at_rest}
@@ -31,7 +32,7 @@ use Rattle.sections.specs.Laws as sections
 use Rattle.sections.specs.Sections.{layer_width, form_tests, site_of, repeats_hold, section_count, section_of, field}
 use Rattle.record.specs.declared.Record.{Record}
 use Rattle.record.specs.Laws.{outcome_of_lem, taken_of}
-use Rattle.record.specs.Record.{is_cell, grid_of, state_of, zero_record, outcome_of, answer_of}
+use Rattle.record.specs.Record.{is_cell, grid_of, state_of, zero_record, answer_of}
 use Rattle.coefficient_slots.specs.Slots.{used_slot, coefficients_hold}
 use Rattle.coefficient_slots.specs.Laws.{Coefficients, coefficients_hold_lem}
 use Rattle.validity_numbers.specs.Numbers.{zero_from, site_unused}

@@ -9,6 +9,7 @@ use Rattle.std.proofs.Math.Path.{ap₂, subst}
 use Rattle.std.proofs.Math.Bool.{cond}
 use Prim.Native.Nat.{ℕ, zero, suc}
 use Rattle.std.proofs.Math.ListN.{length, length-map}
+use Rattle.refusals.specs.Refusals.{outcome_of}
 use Rattle.laws.specs.Lists.{first, range}
 use Rattle.laws.specs.Sums.{length-range}
 use Rattle.network.specs.Network.{Network, State, loss_after, losses_after, moved, refusal}
@@ -16,7 +17,7 @@ use Rattle.network.specs.Grid.{place_count, network_of}
 use Rattle.site.specs.declared.Site.{Site}
 use Rattle.site.specs.Laws.{counts_hold_lem}
 use Rattle.record.specs.declared.Record.{Record}
-use Rattle.record.specs.Record.{grid_of, state_of, outcome_of, answer_of}
+use Rattle.record.specs.Record.{grid_of, state_of, answer_of}
 use Rattle.validity.specs.Laws.{valid_record}
 use Rattle.coefficients.specs.Coefficients.{scenario_grid}
 use Rattle.step_rules.specs.Step.{with_state, step_refusal, step_of}

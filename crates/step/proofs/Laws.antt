@@ -2,8 +2,9 @@
 use mathlib.Core.Path.{◌≡◌, refl}
 use mathlib.Core.Bool.{Bool, true, false, cond}
 use Prim.Native.Nat.{ℕ, zero, suc}
+use Rattle.refusals.specs.Refusals.{outcome_of}
 use Rattle.record.specs.declared.Record.{Record}
-use Rattle.record.specs.Record.{outcome_of, answer_of, repeated_of}
+use Rattle.record.specs.Record.{answer_of, repeated_of}
 use Rattle.validity.specs.Validity.{valid}
 use Rattle.step_rules.specs.Step.{step_refusal, step_of}
 use Rattle.step_rules.proofs.Laws.{refused_14}

@@ -5,9 +5,10 @@ use Rattle.std.specs.Prelude.{◌≡◌, true, false, ℤ}
 use Rattle.std.proofs.Math.Path.{sym, ap}
 use Rattle.std.proofs.Common.{◌∙◌, arith}
 use Prim.Native.Nat.{ℕ, zero, suc, ◌<◌}
+use Rattle.refusals.specs.Refusals.{outcome_of}
 use Rattle.record.specs.declared.Record.{Record}
 use Rattle.record.specs.declared.Outcome.{Outcome}
-use Rattle.record.specs.Record.{outcome_of, repeated_of}
+use Rattle.record.specs.Record.{repeated_of}
 use Rattle.record.specs.Laws.{refusal_of}
 use Rattle.validity.specs.Validity.{valid}
 use Rattle.step_rules.specs.Step.{step_refusal, step_of}

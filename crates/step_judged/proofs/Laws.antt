@@ -30,8 +30,8 @@ use Rattle.laws.specs.Refusal.First.{hit}
 use Rattle.laws.specs.Signed.{small_fits, abs_add, room_fits, room_sum}
 use Rattle.laws.specs.Lists.{larger, ifℤ, sumℤ, range, first}
 use Rattle.limits.specs.Limits.{rate_limit, length_limit, total_limit, drawdown_limit}
+use Rattle.refusals.specs.Refusals.{outcome_of}
 use Rattle.record.specs.declared.Outcome.TheVariants.{Taken}
-use Rattle.record.specs.Record.{outcome_of}
 use Rattle.validity_drawdowns.specs.Drawdowns.{deeper}
 use Rattle.step_drawdowns.specs.Drawdowns.{depth_of}
 use Rattle.step_sweep.specs.declared.Terms.{Terms}

@@ -5,7 +5,7 @@ use Rattle.std.specs.Prelude.{◌≡◌, Bool, not, List, [], ◌∷◌, ℕ, ze
 use Rattle.laws.specs.Integer.{UpTo}
 use Rattle.laws.specs.Lists.{larger, first}
 use Rattle.limits.specs.Limits.{total_limit, drawdown_limit}
-use Rattle.record.specs.Record.{outcome_of}
+use Rattle.refusals.specs.Refusals.{outcome_of}
 use Rattle.validity_drawdowns.specs.Drawdowns.{deeper}
 use Rattle.step_conditions.specs.Conditions.{totals_full, Filled, table_within}
 use Rattle.step_drawdowns.specs.Drawdowns.{depth_of}

@@ -5,10 +5,10 @@ ghost use Rattle.std.specs.Prelude.{◌≡◌, ◌+◌, ◌*◌, ◌-◌, ◌≤
 ghost use Rattle.laws.specs.Fill.{fill};
 ghost use Rattle.laws.specs.Lists.{larger};
 ghost use Rattle.limits.specs.Limits.{drawdown_limit};
+ghost use Rattle.refusals.specs.Refusals.{outcome_of};
 ghost use Rattle.step_conditions.specs.Conditions.{Filled};
 ghost use Rattle.step_drawdowns.specs.Drawdowns.{Stands, Multiplied};
 ghost use Rattle.step_sweep.specs.Worked.{lent, Scratch};
-ghost use Rattle.record.specs.Record.{outcome_of};
 ghost use Rattle.step_judged.specs.Course.{too_deep, Advancing, Advances};
 
 use limits::{CELL_PLACES, COLUMN_PLACES, LAYER_PLACES};

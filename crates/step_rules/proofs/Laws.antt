@@ -25,6 +25,7 @@ use Rattle.laws.specs.Refusal.{first_is}
 use Rattle.laws.specs.Refusal.First.{hit, skip}
 use Rattle.laws.specs.Sums.{or_no}
 use Rattle.limits.specs.Limits.{rate_limit, length_limit}
+use Rattle.refusals.specs.Refusals.{outcome_of}
 use Rattle.network.specs.Network.{Network, State, loss_at, storage_at, drawdown, losses_after, moved, length_out, rate_or_length_out, stable, unstable, totals_pass, well_too_deep, table_too_deep, step_tests}
 use Rattle.network.specs.Grid.{place, one_per_place, network_of}
 use Rattle.network.proofs.laws.Bounds.{depth_natural, losses_after_lem}
@@ -34,7 +35,7 @@ use Rattle.site.specs.Limited.{Counts}
 use Rattle.record.specs.declared.Record.{Record}
 use Rattle.record.specs.declared.Answer.{Answer}
 use Rattle.record.specs.declared.Outcome.TheVariants.{Refused}
-use Rattle.record.specs.Record.{slot, grid_of, state_of, outcome_of, answer_of}
+use Rattle.record.specs.Record.{slot, grid_of, state_of, answer_of}
 use Rattle.validity.specs.Validity.{valid}
 use Rattle.validity.specs.Laws.{Valid, valid_record, valid_proper, mark_natural, mark_most, mark_back as kept-mark}
 use Rattle.validity_drawdowns.specs.Drawdowns.{deeper}

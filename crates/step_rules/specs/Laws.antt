@@ -11,6 +11,7 @@ use Rattle.std.proofs.Math.Bool.{true, false}
 use Prim.Native.Nat.{ℕ, zero, suc, ◌+◌, ◌*◌, ◌-◌, ◌/◌, ◌%◌, ◌<◌}
 use Rattle.std.proofs.Math.IntN.{pos}
 use Rattle.std.proofs.Math.ListN.{get_or}
+use Rattle.refusals.specs.Refusals.{outcome_of}
 use borrow.Author.Tests.{lt-ltb, not-false}
 use Rattle.laws.specs.Integer.{natural, ≤ℤ_trans, not_past, larger_bounds}
 use Rattle.laws.specs.Lists.{larger}
@@ -26,7 +27,7 @@ use Rattle.network.proofs.laws.Preserve.{accepted, kept_moved}
 use Rattle.site.specs.Laws.{counts_hold_lem}
 use Rattle.site.specs.Limited.{Counts}
 use Rattle.record.specs.declared.Record.{Record}
-use Rattle.record.specs.Record.{slot, slots, is_cell, grid_of, state_of, outcome_of}
+use Rattle.record.specs.Record.{slot, slots, is_cell, grid_of, state_of}
 use Rattle.record.specs.Laws.{outcome_of_lem, kept_of_lem}
 use Rattle.coefficient_slots.specs.Slots.{used_slot, coefficients_unused}
 use Rattle.validity.specs.Validity.{is_zero_ℤ, losses_unused, valid}

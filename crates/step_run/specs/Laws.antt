@@ -10,12 +10,13 @@ use Rattle.std.proofs.Common.{sym, subst, ◌∙◌}
 use Rattle.std.proofs.Math.Bool.{true}
 use Prim.Native.Nat.{ℕ, zero, suc, ◌+◌, ◌-◌, ◌<◌}
 use native.Mathlib.Omega.{arith}
+use Rattle.refusals.specs.Refusals.{outcome_of}
 use Rattle.network.specs.Network.{moved, stable}
 use Rattle.network.specs.Grid.{network_of}
 use Rattle.record.specs.declared.Record.{Record}
 use Rattle.record.specs.declared.Answer.{Answer}
 use Rattle.record.specs.declared.Outcome.{Outcome}
-use Rattle.record.specs.Record.{grid_of, state_of, outcome_of, answer_of, repeated_of}
+use Rattle.record.specs.Record.{grid_of, state_of, answer_of, repeated_of}
 use Rattle.record.specs.Laws.{refusal_of, taken_of}
 use Rattle.validity.specs.Validity.{valid}
 use Rattle.step_judged.specs.declared.Advanced.{Advanced}

@@ -9,12 +9,13 @@ use Rattle.std.proofs.Math.Path.{refl}
 use Rattle.std.proofs.Common.{sym, ap, ◌∙◌, true≢false, le_of_suc-le-suc, not-suc-le-zero, arith}
 use Rattle.std.proofs.Math.Bool.{true, false}
 use Prim.Native.Nat.{ℕ, zero, suc}
+use Rattle.refusals.specs.Refusals.{outcome_of}
 use Rattle.laws.specs.All.{and_left, and_right}
 use Rattle.laws.specs.Rows.{both_hold}
 use Rattle.record.specs.declared.Record.{Record}
 use Rattle.record.specs.declared.Outcome.{Outcome}
 use Rattle.record.specs.declared.Repeated.{Repeated}
-use Rattle.record.specs.Record.{outcome_of, repeated_of}
+use Rattle.record.specs.Record.{repeated_of}
 use Rattle.validity.specs.Validity.{valid}
 use Rattle.step_rules.specs.Step.{step_refusal, step_of}
 use Rattle.step_rules.specs.Steps.{onward, steps_of}

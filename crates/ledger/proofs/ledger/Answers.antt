@@ -3,13 +3,14 @@ use mathlib.Core.Path.{◌≡◌, ap, ◌∙◌}
 use mathlib.Core.List.{List, []}
 use Prim.Native.Nat.{ℕ}
 use lib.IntN.{pos, ◌-ℤ◌, +ℤ_idl}
+use Rattle.refusals.specs.Refusals.{outcome_of}
 use Rattle.laws.specs.Lists.{ifℤ}
 use Rattle.network.specs.Network.{at_rest, loss_in}
 use Rattle.network.specs.Grid.{network_of}
 use Rattle.network.proofs.laws.Bounds.{depth_natural}
 use Rattle.network.proofs.laws.Preserve.{loss_in-at_rest}
 use Rattle.record.specs.declared.Record.{Record}
-use Rattle.record.specs.Record.{grid_of, state_of, outcome_of}
+use Rattle.record.specs.Record.{grid_of, state_of}
 use Rattle.readings.specs.Readings.{amount_of, number_of, set_of}
 use Rattle.readings.specs.Laws.{named-place}
 use Rattle.validity.specs.Laws.{Valid, valid_record, valid_proper}

@@ -1,8 +1,8 @@
 -- At each return the tests on the way give the number that halts the step, or none.
 use Rattle.std.proofs.Common.{◌≡◌, sym, ap, ◌∙◌, ℕ, ◌<◌, arith, true, w64, to_z, of_z}
+use Rattle.refusals.specs.Refusals.{outcome_of}
 use Rattle.laws.specs.Integer.{≤ℤ_pos}
 use Rattle.laws.specs.Signed.{back}
-use Rattle.record.specs.Record.{outcome_of}
 use Rattle.step_conditions.specs.Conditions.{totals_full}
 use Rattle.step_losses.specs.declared.Swept.{Swept}
 use Rattle.step_sweep.specs.Worked.{Lent, well_after, inflow_after, worked_of}
