@@ -3,7 +3,7 @@
 use Rattle.std.specs.Prelude.{◌≡◌, ℕ, zero, suc, ℤ, pos, neg_ℤ, get_or, Result, Ok, Err}
 use mathlib.Core.List.{List, [], ◌∷◌, ◌++◌, map}
 use Rattle.refusals.specs.declared.Refusal.{Refusal}
-use Rattle.refusals.specs.Refusals.{number_of}
+use Rattle.refusals.specs.Refusals.{refusal_number}
 use Rattle.network.specs.Network.{Network, drawdown, in_use, flow}
 use Rattle.network.specs.Grid.{Grid, place, across_face, down_face, network_of}
 use Rattle.geometry.specs.Geometry.{logarithm, horizontal}
@@ -24,7 +24,7 @@ Row = ℤ × ℤ
 -- the number of an outcome, 0 for taken
 unfoldable pub outcome_number : Result Unit Refusal → ℕ
 outcome_number (Ok u) = 0
-outcome_number (Err k) = number_of k
+outcome_number (Err k) = refusal_number k
 
 -- the rows for start's answer
 unfoldable pub start_rows : Answer → List Row

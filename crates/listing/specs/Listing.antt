@@ -2,7 +2,7 @@
 use Rattle.std.specs.Prelude.{Bool, true, false, List, [], ◌∷◌, ◌++◌, map, ℕ, zero, suc, take, Ok, Err}
 use Rattle.laws.specs.Lists.{range}
 use Rattle.limits.specs.Limits.{entry_limit}
-use Rattle.refusals.specs.Refusals.{number_of}
+use Rattle.refusals.specs.Refusals.{refusal_number}
 use Rattle.decimal.specs.Decimal.{digits_of}
 use Rattle.text.specs.Text.{numbers}
 use Rattle.sections.specs.declared.Entry.{Entry}
@@ -46,7 +46,7 @@ unfoldable pub listing_of : List ℕ → List ℕ
 listing_of text =
     elim (start_of text).outcome [
       | Ok u ↦ header_line ++ lines_of 1 (pumping_in text) (start_of text).«record»
-      | Err k ↦ scenario_line (number_of k)
+      | Err k ↦ scenario_line (refusal_number k)
     ]
 
 -- ---- the listing piece by piece
@@ -60,7 +60,7 @@ unfoldable pub opened : Answer → Piece
 opened a =
     elim a.outcome [
       | Ok u ↦ piece header_line a.«record» false
-      | Err k ↦ piece (scenario_line (number_of k)) a.«record» true
+      | Err k ↦ piece (scenario_line (refusal_number k)) a.«record» true
     ]
 
 unfoldable pub opening_of : List ℕ → Piece

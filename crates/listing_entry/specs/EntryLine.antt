@@ -1,7 +1,7 @@
 -- The line of a pumping entry, as bytes (document 01, the last paragraph of 'A step').
 use Rattle.std.specs.Prelude.{List, [], ◌∷◌, ℕ, ℤ, Result, Ok, Err}
 use Rattle.refusals.specs.declared.Refusal.{Refusal}
-use Rattle.refusals.specs.Refusals.{number_of}
+use Rattle.refusals.specs.Refusals.{refusal_number}
 use Rattle.decimal.specs.Decimal.{digits_of}
 use Rattle.record.specs.declared.Answer.{Answer}
 use Rattle.readings.specs.declared.Place.{Place}
@@ -30,13 +30,13 @@ figures_line n time well t =
 -- the line from what the readings answer; a refused reading stands in its place
 unfoldable pub readings_line : ℕ → ℕ → Result ℤ Refusal → Result Totals Refusal → List ℕ
 readings_line n time (Ok well) (Ok t) = figures_line n time well t
-readings_line n time (Ok well) (Err k) = refused_line n (number_of k)
-readings_line n time (Err k) b = refused_line n (number_of k)
+readings_line n time (Ok well) (Err k) = refused_line n (refusal_number k)
+readings_line n time (Err k) b = refused_line n (refusal_number k)
 
 -- the line of entry n after its run
 unfoldable pub entry_line : ℕ → Answer → List ℕ
 entry_line n a =
     elim a.outcome [
       | Ok u ↦ readings_line n a.«record».time (drawdown_of a.«record» Place.Well) (budget_of a.«record»)
-      | Err k ↦ refused_line n (number_of k)
+      | Err k ↦ refused_line n (refusal_number k)
     ]

@@ -2,7 +2,7 @@
 -- judges by.
 -- Units: D µm; lengths of steps µs; rates ml/s.
 use Rattle.std.specs.Prelude.{◌≡◌, Bool, true, false, ◌⊎◌, ℕ, suc, ◌*◌, ◌^◌, ◌<◌, leb, ℤ, pos, ◌≤ℤ◌, ◌<ℤ◌, Result, Ok, Err}
-use Rattle.refusals.specs.Refusals.{outcome_of, number_of}
+use Rattle.refusals.specs.Refusals.{outcome_of, refusal_number}
 use Rattle.refusals.specs.declared.Refusal.{Refusal}
 use Rattle.network.specs.Network.{Network, storage_at, drawdown, losses_after, conductance_sum, unstable}
 use Rattle.network.specs.Grid.{Grid, network_of}
@@ -21,7 +21,7 @@ number_in (Ok (Limiting.TooLong p n)) = 8
 number_in (Ok (Limiting.PastIntake p)) = 10
 number_in (Ok (Limiting.PastBottom p)) = 11
 number_in (Ok Limiting.Nothing) = 0
-number_in (Err k) = number_of k
+number_in (Err k) = refusal_number k
 
 module _ (r : Record) (rate dt : ℕ) where
   abbrev G : Grid

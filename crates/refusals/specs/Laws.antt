@@ -7,21 +7,21 @@
 use Rattle.std.specs.Prelude.{◌≡◌, refl, ℕ, zero, suc, ◌<◌, ◌≤◌, Result, Ok, Err}
 use Rattle.std.proofs.Common.{sym, ◌∙◌, ap, arith}
 use Rattle.refusals.specs.declared.Refusal.{Refusal}
-use Rattle.refusals.specs.Refusals.{number_of, refusal, given}
+use Rattle.refusals.specs.Refusals.{refusal_number, refusal, given}
 
-pub number_is : (m : ℕ) → 0 < m → m ≤ 14 → number_of (refusal m) ≡ m
-unfolding number_of refusal
+pub number_is : (m : ℕ) → 0 < m → m ≤ 14 → refusal_number (refusal m) ≡ m
+unfolding refusal_number refusal
 number_is m h g = grind arith
 
-past : (m : ℕ) → 14 < m → number_of (refusal m) ≡ 20
-unfolding number_of refusal
+past : (m : ℕ) → 14 < m → refusal_number (refusal m) ≡ 20
+unfolding refusal_number refusal
 past m h = grind arith
 
 pub same_number : (m k : ℕ) → 0 < m → 0 < k → k ≤ 14 → refusal m ≡ refusal k → m ≡ k
 same_number m k h g l e =
-    let n : number_of (refusal m) ≡ k = ap number_of e ∙ number_is k g l in
-    let near : m ≤ 14 → number_of (refusal m) ≡ m = number_is m h in
-    let far : 14 < m → number_of (refusal m) ≡ 20 = past m in
+    let n : refusal_number (refusal m) ≡ k = ap refusal_number e ∙ number_is k g l in
+    let near : m ≤ 14 → refusal_number (refusal m) ≡ m = number_is m h in
+    let far : 14 < m → refusal_number (refusal m) ≡ 20 = past m in
     grind (arith, n, near, far, l)
 
 module _ {A : Type 0} where

@@ -3,22 +3,22 @@ use Rattle.std.specs.Prelude.{cond, ℕ, zero, suc, eqb, Result, Ok, Err}
 use Rattle.refusals.specs.declared.Refusal.{Refusal}
 
 -- the number of a refusal
-unfoldable pub number_of : Refusal → ℕ
-number_of Refusal.Lines = 1
-number_of Refusal.Counts = 2
-number_of Refusal.Numbers = 3
-number_of Refusal.Radii = 4
-number_of Refusal.Screen = 5
-number_of Refusal.Coefficients = 6
-number_of Refusal.RateOrLength = 7
-number_of Refusal.Unstable = 8
-number_of Refusal.Totals = 9
-number_of Refusal.PastIntake = 10
-number_of Refusal.PastBottom = 11
-number_of Refusal.NoSuch = 12
-number_of Refusal.LentLength = 13
-number_of Refusal.Record = 14
-number_of Refusal.Choice = 20
+unfoldable pub refusal_number : Refusal → ℕ
+refusal_number Refusal.Lines = 1
+refusal_number Refusal.Counts = 2
+refusal_number Refusal.Numbers = 3
+refusal_number Refusal.Radii = 4
+refusal_number Refusal.Screen = 5
+refusal_number Refusal.Coefficients = 6
+refusal_number Refusal.RateOrLength = 7
+refusal_number Refusal.Unstable = 8
+refusal_number Refusal.Totals = 9
+refusal_number Refusal.PastIntake = 10
+refusal_number Refusal.PastBottom = 11
+refusal_number Refusal.NoSuch = 12
+refusal_number Refusal.LentLength = 13
+refusal_number Refusal.Record = 14
+refusal_number Refusal.Choice = 20
 
 -- the refusal with a number; no test of the definitions has a number that none has, for which Choice stands here
 unfoldable pub refusal : ℕ → Refusal

@@ -2,7 +2,7 @@
 #![tactic(auto)]
 
 ghost use Rattle.std.specs.Prelude.{◌≡◌};
-ghost use Rattle.refusals.specs.Refusals.{number_of};
+ghost use Rattle.refusals.specs.Refusals.{refusal_number};
 
 use std::error::Error;
 use std::fmt;
@@ -29,9 +29,9 @@ pub enum Refusal {
 
 impl Refusal {
     // Its number in document 01 or 02.
-    #[tactic(auto, unfolding(crate::specs::Refusals::number_of))]
+    #[tactic(auto, unfolding(crate::specs::Refusals::refusal_number))]
     pub fn number(self) -> u64
-        ensures { result ≡ number_of self }
+        ensures { result ≡ refusal_number self }
     {
         match self {
             Refusal::Lines => 1,
