@@ -3,6 +3,7 @@
 use Rattle.std.specs.Prelude.{Bool, cond, ◌&&◌, List, ℕ, ◌-◌, leb, ltb, eqb, get_or}
 use Rattle.laws.specs.Lists.{all_below}
 use Rattle.limits.specs.Limits.{layer_places, cell_places, conductance_limit, storage_limit, between}
+use Rattle.record.specs.declared.Record.{Record}
 use Rattle.coefficient_slots.specs.Slots.{used_slot}
 
 -- layer i is among the first so many layers and column j before the last of the columns
@@ -23,10 +24,10 @@ screen_slot_holds layers i screened x = cond (ltb i layers && eqb screened 1) (l
 unfoldable pub screen_array_holds : ℕ → List ℕ → List ℕ → Bool
 screen_array_holds layers screened screen = all_below layer_places (λ i. screen_slot_holds layers i (get_or screened i 0) (get_or screen i 0))
 
--- all four arrays, the well's faces first; the lowest layer has no vertical C
-unfoldable pub slots_hold : ℕ → ℕ → List ℕ → List ℕ → List ℕ → List ℕ → List ℕ → Bool
-slots_hold layers columns screened screen horizontal vertical storages =
-    screen_array_holds layers screened screen
-    && array_holds layers columns 0 conductance_limit horizontal
-    && array_holds (layers - 1) columns 0 conductance_limit vertical
-    && array_holds layers columns 1 storage_limit storages
+-- all four arrays of a record, the well's faces first; the lowest layer has no vertical C
+unfoldable pub slots_hold : Record → Bool
+slots_hold r =
+    screen_array_holds r.site.layers r.site.screened r.screen
+    && array_holds r.site.layers r.site.columns 0 conductance_limit r.horizontal
+    && array_holds (r.site.layers - 1) r.site.columns 0 conductance_limit r.vertical
+    && array_holds r.site.layers r.site.columns 1 storage_limit r.storages

@@ -246,7 +246,7 @@ module _ (r : Record) (counts : counts_hold r.site ≡ true) where
   vertical_unused =
       all_ext _ _ 1000 (λ k h. ap (λ t. t && ltb (k % 50 + 1) r.site.columns || eqb (get_or r.vertical k 0) 0) (above_deepest r.site.layers (k / 50) some_layer))
 
-  slots_grid : slots_hold r.site.layers r.site.columns r.site.screened r.screen r.horizontal r.vertical r.storages ≡ true → Coefficients (grid_of r)
+  slots_grid : slots_hold r ≡ true → Coefficients (grid_of r)
   unfolding slots_hold screen_array_holds screen_slot_holds grid_of across_in is_screened
   slots_grid e =
       let tests = four_hold (screen_array_holds r.site.layers r.site.screened r.screen) (array_holds r.site.layers r.site.columns 0 conductance_limit r.horizontal)
@@ -258,7 +258,7 @@ module _ (r : Record) (counts : counts_hold r.site ≡ true) where
         storage = λ i j h one k. within 1 storage_limit _ (array_at r.site.layers r.site.columns few narrow 1 storage_limit r.storages tests.3 i j h one k);
       }
 
-  slots_unused : slots_hold r.site.layers r.site.columns r.site.screened r.screen r.horizontal r.vertical r.storages ≡ true → coefficients_unused r ≡ true
+  slots_unused : slots_hold r ≡ true → coefficients_unused r ≡ true
   unfolding slots_hold screen_array_holds screen_slot_holds coefficients_unused has_screen is_screened is_cell
   slots_unused e =
       let tests = four_hold (screen_array_holds r.site.layers r.site.screened r.screen) (array_holds r.site.layers r.site.columns 0 conductance_limit r.horizontal)
@@ -269,8 +269,7 @@ module _ (r : Record) (counts : counts_hold r.site ≡ true) where
       (sym vertical_unused ∙ array_unused (r.site.layers - 1) r.site.columns fewer narrow 0 conductance_limit r.vertical tests.2))
       (array_unused r.site.layers r.site.columns few narrow 1 storage_limit r.storages tests.3)
 
-  slots_from : Coefficients (grid_of r) → coefficients_unused r ≡ true →
-      slots_hold r.site.layers r.site.columns r.site.screened r.screen r.horizontal r.vertical r.storages ≡ true
+  slots_from : Coefficients (grid_of r) → coefficients_unused r ≡ true → slots_hold r ≡ true
   unfolding slots_hold screen_array_holds screen_slot_holds coefficients_unused grid_of across_in has_screen is_screened is_cell
   slots_from c u =
       let zero = four_hold (all_below 20 (λ i. has_screen r.site i || eqb (get_or r.screen i 0) 0)) (zero_unused (is_cell r.site) r.horizontal) (zero_unused (has_below r.site) r.vertical) (zero_unused (is_cell r.site) r.storages) u in
@@ -282,9 +281,7 @@ module _ (r : Record) (counts : counts_hold r.site ≡ true) where
       (array_from (r.site.layers - 1) r.site.columns fewer narrow 0 conductance_limit r.vertical (λ i j h one k. between_from (record { least = zero-le; most = c.down i j (omega arith) one k })) (vertical_unused ∙ zero.2)))
       (array_from r.site.layers r.site.columns few narrow 1 storage_limit r.storages (λ i j h one k. between_from (c.storage i j h one k)) zero.3)
 
-  pub slots-coefficients :
-      slots_hold r.site.layers r.site.columns r.site.screened r.screen r.horizontal r.vertical r.storages
-      ≡ (coefficients_hold (grid_of r) && coefficients_unused r)
+  pub slots-coefficients : slots_hold r ≡ (coefficients_hold (grid_of r) && coefficients_unused r)
   slots-coefficients =
       same_test _ (coefficients_hold (grid_of r) && coefficients_unused r)
       (λ e. both_hold (hold_coefficients (grid_of r) (slots_grid e)) (slots_unused e))

@@ -5,7 +5,7 @@ use Rattle.coefficient_slots.specs.Held.{screen_array_holds}
 use Rattle.coefficient_slots.proofs.screen_slots_hold.Goals as goal
 
 pub loop-i-init : goal.loop-i-init
-loop-i-init c = (omega arith, all_none _)
+loop-i-init c = all_none _
 
 pub returns-then-not-screen_slot_holds : goal.returns-then-not-screen_slot_holds
 unfolding screen_array_holds
@@ -13,12 +13,10 @@ returns-then-not-screen_slot_holds c =
     sym (all_fails _ 20 c.loop-i.i (omega arith) (sym c.screen_slot_holds.ensures ∙ c.if-not-screen_slot_holds.true))
 
 pub loop-i-preserved : goal.loop-i-preserved
-loop-i-preserved c =
-    let at = c.loop-i in
-    (omega arith, all_more _ at.i at.invariant.1 (sym c.screen_slot_holds.ensures ∙ c.if-not-screen_slot_holds.false))
+loop-i-preserved c = all_more _ c.loop-i.i c.loop-i.invariant (sym c.screen_slot_holds.ensures ∙ c.if-not-screen_slot_holds.false)
 
 pub returns : goal.returns
 unfolding screen_array_holds
 returns c =
     let e : c.loop-i.i ≡ 20 = omega arith in
-    sym (rw e at c.loop-i.invariant.1)
+    sym (rw e at c.loop-i.invariant)

@@ -5,19 +5,17 @@ use Rattle.coefficient_slots.specs.Held.{array_holds}
 use Rattle.coefficient_slots.proofs.slots_hold.Goals as goal
 
 pub loop-k-init : goal.loop-k-init
-loop-k-init c = (omega arith, all_none _)
+loop-k-init c = all_none _
 
 pub returns-then-not-slot_holds : goal.returns-then-not-slot_holds
 unfolding array_holds
 returns-then-not-slot_holds c = sym (all_fails _ 1000 c.loop-k.k (omega arith) (sym c.slot_holds.ensures ∙ c.if-not-slot_holds.true))
 
 pub loop-k-preserved : goal.loop-k-preserved
-loop-k-preserved c =
-    let at = c.loop-k in
-    (omega arith, all_more _ at.k at.invariant.1 (sym c.slot_holds.ensures ∙ c.if-not-slot_holds.false))
+loop-k-preserved c = all_more _ c.loop-k.k c.loop-k.invariant (sym c.slot_holds.ensures ∙ c.if-not-slot_holds.false)
 
 pub returns : goal.returns
 unfolding array_holds
 returns c =
     let e : c.loop-k.k ≡ 1000 = omega arith in
-    sym (rw e at c.loop-k.invariant.1)
+    sym (rw e at c.loop-k.invariant)
