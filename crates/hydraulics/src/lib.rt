@@ -30,6 +30,7 @@ fn signed(n: i64) -> f64
     n as f64
 }
 
+// By comparison and negation, not x.abs(): document 01 names this form, and it keeps a zero's sign.
 fn absolute(x: f64) -> f64
     ensures { result ≡ absolute x }
 {
@@ -63,13 +64,11 @@ pub fn screen_law(count: u64, n1: u64, n2: u64) -> ScreenLaw
     requires { (1 ≤ count → n1 ≤ 2 ^ 53) × (2 ≤ count → n2 ≤ 2 ^ 53) }
     ensures { result ≡ law_of count n1 n2 }
 {
-    if count == 0 {
-        return ScreenLaw::None;
+    match count {
+        0 => ScreenLaw::None,
+        1 => ScreenLaw::Linear(millionths(n1)),
+        _ => ScreenLaw::Square(millionths(n1), millionths(n2)),
     }
-    if count == 1 {
-        return ScreenLaw::Linear(millionths(n1));
-    }
-    ScreenLaw::Square(millionths(n1), millionths(n2))
 }
 
 pub fn screen_loss(law: ScreenLaw, y: f64) -> f64

@@ -7,9 +7,8 @@ use Rattle.hydraulics.proofs.pipe_loss.Goals as goal
 pub returns : goal.returns
 unfolding pipe_loss
 returns c =
-    let s = c in
-    let v = s.args.v in
-    let above = s.args.above in
+    let v = c.args.v in
+    let above = c.args.above in
     let length = ap₂ ◌⊘◌ c.whole.ensures.0 c.whole-2.ensures.0 in
-    let friction = ap₂ ◌⊗◌ (ap₂ ◌⊗◌ s.millionths-f.ensures length) (ap (v ⊗◌) c.absolute-size.ensures) in
+    let friction = ap₂ ◌⊗◌ (ap₂ ◌⊗◌ c.millionths-f.ensures length) (ap (v ⊗◌) c.absolute-size.ensures) in
     rw (twice_gravity_is, gravity_is) (ap (λ x. x ⊘ twice_gravity ⊕ (above ⊗ above ⊖ v ⊗ v) ⊘ gravity) friction)

@@ -5,13 +5,14 @@ use Rattle.hydraulics.specs.Hydraulics.{law_of}
 use Rattle.hydraulics.proofs.Laws.{law_square}
 use Rattle.hydraulics.proofs.screen_law.Goals as goal
 
-pub returns-then-count-eq0 : goal.returns-then-count-eq0
+pub returns-in-0 : goal.returns-in-0
 unfolding law_of
-returns-then-count-eq0 c = rw c.if-count-eq0.true
+returns-in-0 c = rw c.in-0.is
 
-pub returns-then-count-eq1 : goal.returns-then-count-eq1
+pub returns-in-1 : goal.returns-in-1
 unfolding law_of
-returns-then-count-eq1 c = rw c.if-count-eq1.true (ap Linear c.millionths.ensures)
+returns-in-1 c = rw c.in-1.is (ap Linear c.millionths.ensures)
 
-pub returns : goal.returns
-returns c = ap₂ Square c.millionths-2.ensures c.millionths-3.ensures ∙ sym (law_square _ _ _ (omega arith))
+pub returns-in_default : goal.returns-in_default
+returns-in_default c =
+    ap₂ Square c.millionths-in_default.ensures c.millionths-in_default-2.ensures ∙ sym (law_square _ _ _ (omega arith))
