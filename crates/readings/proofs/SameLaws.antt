@@ -4,10 +4,11 @@
 use Rattle.std.specs.Prelude.{◌≡◌, Bool, not, ◌&&◌, List, [], ◌∷◌, ℕ, ℤ}
 use Rattle.std.proofs.Math.Path.{refl}
 use Rattle.std.proofs.Math.Bool.{true, false}
-use Rattle.std.proofs.lemmas.Bool.{false≢true}
-use Rattle.std.proofs.Common.{arith}
+use Rattle.std.proofs.Common.{◌∙◌, arith}
 use borrow.Author.Tests.{eqb-true, eq-eqb}
 use Rattle.std.proofs.Math.Dec.{eqb}
+use Rattle.refusals.specs.Refusals.{given}
+use Rattle.refusals.specs.Laws.{value_given}
 use Rattle.laws.specs.All.{and_left, and_right}
 use Rattle.laws.specs.Lists.{pairwise, first}
 use Rattle.laws.specs.Pairwise.{pairwise_equal, pairwise_itself}
@@ -16,8 +17,7 @@ use Rattle.site.specs.declared.Site.{Site}
 use Rattle.record.specs.declared.Record.{Record}
 use Rattle.validity.specs.Validity.{equalℤ, valid}
 use Rattle.validity.specs.Laws.{equal, itself}
-use Rattle.readings.specs.declared.Sameness.{Sameness}
-use Rattle.readings.specs.Readings.{sameness_of, same_site, same_coefficients, same_water, same_record, same_of}
+use Rattle.readings.specs.Readings.{same_site, same_coefficients, same_water, same_record, same_of}
 
 -- lists of numbers and of integers
 numbers : {l m : List ℕ} → pairwise eqb l m ≡ true → l ≡ m
@@ -119,20 +119,13 @@ same_itself r =
     rw (site_itself r.site, list r.screen, list r.horizontal, list r.vertical, list r.storages, pairwise_itself equalℤ itself r.losses, number r.well_storage, itself r.well_loss, number r.pumped, itself r.inflow, number r.time, itself r.mark)
 
 -- ---- what the reading answers
-given : {a b : Bool} → Sameness.Given a ≡ Sameness.Given b → a ≡ b
-given e = cc
-
-not-refused : {n : ℕ} {b : Bool} → Sameness.Refused n ≡ Sameness.Given b → ⊥
-not-refused e = let z : ◌≡◌ {A = ℕ} 0 1 = cc in omega arith
-
 module _ (r q : Record) where
-  pub same_answer : same_of r q ≡ sameness_of 0 true → (valid r ≡ true) × (valid q ≡ true) × (r ≡ q)
-  unfolding same_of sameness_of first
-  same_answer e = by_tests (valid r) (valid q) (same_record r q) refl refl refl e
+  pub same_answer : same_of r q ≡ given 0 true → (valid r ≡ true) × (valid q ≡ true) × (r ≡ q)
+  unfolding same_of given first
+  same_answer e = by_tests (valid r) (valid q) (same_record r q) refl refl refl (value_given _ _ e)
     where
-      by_tests : (a b t : Bool) → valid r ≡ a → valid q ≡ b → same_record r q ≡ t → sameness_of (first ((not a, 14) ∷ (not b, 14) ∷ [])) t ≡ Sameness.Given true
+      by_tests : (a b t : Bool) → valid r ≡ a → valid q ≡ b → same_record r q ≡ t → (first ((not a, 14) ∷ (not b, 14) ∷ []) ≡ 0) × (t ≡ true)
           → (valid r ≡ true) × (valid q ≡ true) × (r ≡ q)
-      by_tests true true true p k s e = (p, k, same_record_lem r q s)
-      by_tests true true false p k s e = absurd (false≢true (given e))
-      by_tests true false t p k s e = absurd (not-refused e)
-      by_tests false b t p k s e = absurd (not-refused e)
+      by_tests true true t p k s e = (p, k, same_record_lem r q (s ∙ e.1))
+      by_tests true false t p k s e = absurd (omega (arith, e.0))
+      by_tests false b t p k s e = absurd (omega (arith, e.0))

@@ -1,12 +1,11 @@
 -- What the proofs of the readings share: laws only, nothing to believe.
---     amount_refused, amount_given     the answer at the first test that holds, and where none does; balance-..: of the budget
+--     refused_at, given_at             the answer at the first test that holds, and where none does
 --     well_back, inflow_back           the machine reads back the well's loss and the inflow total as they are
---     given_amount                     an answer with a value is refused by no number
 --     layer_bounds, column_bounds, cell_bounds, cell_named   a layer, a stored column and a named cell, by their numbers; named_cell: a cell's name and number
 --     named-place, place-named         what is named is a place, and each place is named; named_once: by one name
 --     equal_counts, equal_names, ..    grids with equal counts have as many places, with the same names and numbers
 --     read_depth                       the drawdown that is read at a named place
-use Rattle.std.specs.Prelude.{◌≡◌, Bool, true, List, eqb, leb, ltb, ℤ, nat_abs}
+use Rattle.std.specs.Prelude.{◌≡◌, Bool, true, List, eqb, leb, ltb, nat_abs, Ok, Err}
 use Rattle.std.proofs.Math.Path.{refl, ap, ap₂}
 use Rattle.std.proofs.Common.{sym, ◌∙◌, true≢false, to_z, of_z}
 use Prim.Native.Nat.{ℕ, zero, suc, ◌-◌, ◌≤◌, ◌<◌, zero-le}
@@ -21,6 +20,7 @@ use Rattle.laws.specs.Rows.{both_hold}
 use Rattle.laws.specs.Signed.{small_fits}
 use Rattle.laws.specs.Sums.{sumℕ_one, mem_range}
 use Rattle.limits.specs.Limits.{total_limit}
+use Rattle.refusals.specs.Refusals.{refusal, given}
 use Rattle.network.specs.Network.{Network, State, loss_at, drawdown}
 use Rattle.network.specs.Grid.{Grid, place_count, place, one_per_place, network_of}
 use Rattle.network.specs.Kept.{Kept}
@@ -32,33 +32,17 @@ use Rattle.validity.specs.Validity.{valid}
 use Rattle.validity.specs.Laws.{Valid, valid_proper}
 use Rattle.readings.specs.declared.Place.{Place}
 use Rattle.readings.specs.declared.Place.TheVariants.{Well, Cell}
-use Rattle.readings.specs.declared.Amount.{Amount}
-use Rattle.readings.specs.declared.Totals.{Totals}
-use Rattle.readings.specs.declared.Balance.{Balance}
-use Rattle.readings.specs.Readings.{amount_of, balance_of, is_layer, is_stored, is_named, number_of, drawdown_of}
+use Rattle.readings.specs.Readings.{is_layer, is_stored, is_named, number_of, drawdown_of}
 
 -- ---- answers
-module _ {ts : List (Bool × ℕ)} where
-  pub amount_refused : {n : ℕ} (x : ℤ) → First ts (suc n) → Amount.Refused (suc n) ≡ amount_of (first ts) x
-  unfolding amount_of
-  amount_refused x f = rw (← first_is f)
+module _ {A : Type 0} {ts : List (Bool × ℕ)} where
+  pub refused_at : {n : ℕ} (x : A) → First ts (suc n) → Err (refusal (suc n)) ≡ given (first ts) x
+  unfolding given
+  refused_at x f = rw (← first_is f)
 
-  pub amount_given : {x y : ℤ} → First ts 0 → y ≡ x → Amount.Given y ≡ amount_of (first ts) x
-  unfolding amount_of
-  amount_given f e = rw (← first_is f) (ap Amount.Given e)
-
-  pub balance_refused : {n : ℕ} (x : Totals) → First ts (suc n) → Balance.Refused (suc n) ≡ balance_of (first ts) x
-  unfolding balance_of
-  balance_refused x f = rw (← first_is f)
-
-  pub balance_given : {x y : Totals} → First ts 0 → y ≡ x → Balance.Given y ≡ balance_of (first ts) x
-  unfolding balance_of
-  balance_given f e = rw (← first_is f) (ap Balance.Given e)
-
-pub given_amount : (n : ℕ) (x D : ℤ) → amount_of n x ≡ amount_of 0 D → (n ≡ 0) × (x ≡ D)
-unfolding amount_of
-given_amount zero x D e = (refl, cc)
-given_amount (suc n) x D e = let z : ◌≡◌ {A = ℕ} 0 1 = cc in absurd (omega arith)
+  pub given_at : {x y : A} → First ts 0 → y ≡ x → Ok y ≡ given (first ts) x
+  unfolding given
+  given_at f e = rw (← first_is f) (ap Ok e)
 
 -- ---- losses
 module _ (N : Network) (s : State) (kept : Kept N s) where
@@ -158,6 +142,6 @@ module _ (G H : Grid) (layers : G.layers ≡ H.layers) (columns : G.columns ≡ 
 
 -- ---- the drawdown that is read
 pub read_depth : (r : Record) → valid r ≡ true → (p : Place) → is_named (grid_of r) p ≡ true
-    → drawdown_of r p ≡ amount_of 0 (drawdown (network_of (grid_of r)) (state_of r).losses (number_of (grid_of r) p))
+    → drawdown_of r p ≡ given 0 (drawdown (network_of (grid_of r)) (state_of r).losses (number_of (grid_of r) p))
 unfolding drawdown_of first
 read_depth r ok p e = rw (ok, e)

@@ -11,47 +11,20 @@ use record::Record;
 
 // Place and face are document 01's own terms ('Geometry to coefficients', 'Readings'). A place is the well, or the cell of a layer and a column, which
 // count from 1 as there. An end of a face is named in the same way, and may be in the last column.
-#[derive(Clone, Copy)]
+#[derive(Clone, Copy, Debug, PartialEq, Eq)]
 pub enum Place {
     Well,
     Cell(u64, u64),
 }
 
-// A drawdown in µm, or a storage loss or the water of a face in nl; or the number of the refusal.
-#[derive(Clone, Copy)]
-pub enum Amount {
-    Given(i64),
-    Refused(u64),
-}
-
 // The water budget of a record, nl, and its mark.
-#[derive(Clone, Copy)]
+#[derive(Clone, Copy, Debug, PartialEq, Eq)]
 pub struct Totals {
     pub pumped: u64,
     pub well_loss: i64,
     pub cell_loss: i64,
     pub inflow: i64,
     pub mark: i64, // the record's mark, µm
-}
-
-#[derive(Clone, Copy)]
-pub enum Balance {
-    Given(Totals),
-    Refused(u64),
-}
-
-// How many cells are deeper than a drawdown.
-#[derive(Clone, Copy)]
-pub enum Count {
-    Given(u64),
-    Refused(u64),
-}
-
-// Whether two records are the same.
-#[derive(Clone, Copy)]
-pub enum Sameness {
-    Given(bool),
-    Refused(u64),
 }
 
 // The slot of the cell of a layer and a column that a caller names.
@@ -63,11 +36,11 @@ pub fn slot_of(layer: u64, column: u64) -> usize
 }
 
 // D of each cell of a valid record in its slot, µm. A slot that no cell uses has 0.
-pub fn depths(record: Record) -> [u64; CELL_PLACES]
-    requires { valid «record» ≡ true }
-    ensures { Depths «record» result }
+pub fn depths(rec: &Record) -> [u64; CELL_PLACES]
+    requires { valid rec.now ≡ true }
+    ensures { Depths rec.now result }
 {
-    let layers = record.site.layers as usize;
-    let stored = (record.site.columns - 1) as usize;
-    step_drawdowns::plain_drawdowns(&record.losses, &record.storages, layers, stored)
+    let layers = rec.site.layers as usize;
+    let stored = (rec.site.columns - 1) as usize;
+    step_drawdowns::plain_drawdowns(&rec.losses, &rec.storages, layers, stored)
 }
