@@ -1,29 +1,45 @@
 -- Laws that this crate's proofs share.
-use mathlib.Core.Path.{◌≡◌, refl}
-use mathlib.Core.Bool.{true, false, ◌||◌}
-use mathlib.Core.List.{List}
-use Prim.Native.Nat.{ℕ, ◌+◌, ◌-◌, ◌≤◌}
-use native.Mathlib.Omega.{arith}
-use borrow.Author.Tests.{eqb-true, eq-eqb}
-use lib.Dec.{eqb}
-use lib.IntN.{ℤ, pos, nat_abs}
-use lib.ListN.{get_or}
-use lib.Signed.{non_neg}
-use Rattle.laws.specs.Lists.{sumℕ, range}
-use Rattle.laws.specs.Rows.{same_test}
+use Rattle.std.proofs.Common.{◌≡◌, refl, sym, ap, ◌∙◌, ℕ, ◌+◌, ◌-◌, ◌≤◌, ◌<◌, Bool, true, ◌&&◌, List, [], ◌∷◌, length, arith, pos, ℤ, nat_abs, get_or, zero-add, to_z-of_z, negsuc, le-leb, zero-le, eqb, of_z, w64}
+use Rattle.std.proofs.lemmas.Bool.{false≢true}
+use Rattle.std.specs.Int.Signed.{le_z, non_neg}
+use Rattle.std.specs.List.{list_all, enumerate_from}
+use Rattle.std.proofs.lemmas.List.FromFn.{length-enumerate_from, get_or-enumerate_from}
+use Rattle.laws.specs.All.{all_at}
+use Rattle.laws.specs.Every.{every_at}
+use Rattle.laws.specs.Lists.{all_below, every, sumℕ, range}
+use Rattle.laws.specs.Pointwise.{every_from}
+use Rattle.laws.specs.Rows.{same_test, all_from}
 use Rattle.laws.specs.RowSums.{sum_more, sum_parts}
-use Rattle.coefficient_slots.specs.Held.{inside}
-use Rattle.coefficient_slots.specs.Slots.{used_slot}
-use Rattle.validity_totals.specs.Totals.{loss_slot_holds, loss_sum}
+use Rattle.validity_totals.specs.Totals.{loss_sum}
+
+-- ---- a test of each element with its place
+every_is : {A : Type 0} (p : A → Bool) (l : List A) → list_all p l ≡ every p l
+unfolding every
+every_is p [] = refl
+every_is p (a ∷ l) = ap (p a &&◌) (every_is p l)
+
+module _ {A : Type 0} (d : A) (t : ℕ → A → Bool) where
+  pub all_listed : (l : List A) (n : ℕ) → length l ≡ n → list_all (λ p. t p.0 p.1) (enumerate_from 0 l) ≡ all_below n (λ k. t k (get_or l k d))
+  all_listed l n e =
+      every_is (λ p. t p.0 p.1) (enumerate_from 0 l)
+      ∙ same_test _ _
+      (λ q. all_from (λ k. t k (get_or l k d)) n (λ k h. rw (at k (omega arith)) at (every_at (λ p. t p.0 p.1) (enumerate_from 0 l) k (0, d) q (omega (arith, length-enumerate_from 0 l)))))
+      (λ q. every_from (λ p. t p.0 p.1) (enumerate_from 0 l) (0, d)
+      (λ k h. let lt : k < length l = omega (arith, length-enumerate_from 0 l) in rw (at k lt) (all_at (λ k. t k (get_or l k d)) n k q (omega arith))))
+    where
+      at : (k : ℕ) → k < length l → get_or (enumerate_from 0 l) k (0, d) ≡ (k, get_or l k d)
+      at k h = get_or-enumerate_from 0 l k (0, d) h ∙ ap (λ m. (m, get_or l k d)) (zero-add k)
 
 -- ---- a loss in its slot
-pub negative_slot : (layers columns k : ℕ) (v : ℤ) → non_neg v ≡ false → false ≡ loss_slot_holds layers columns k v
-unfolding loss_slot_holds
-negative_slot layers columns k v e = rw e
+pub sign_is : (v : ℤ) → le_z (pos 0) v ≡ non_neg v
+sign_is (pos n) = le-leb 0 n zero-le
+sign_is (negsuc n) = refl
 
-pub natural_slot : (layers columns k : ℕ) (v : ℤ) → non_neg v ≡ true → loss_slot_holds layers columns k v ≡ (used_slot (inside layers columns) k || eqb (nat_abs v) 0)
-unfolding loss_slot_holds
-natural_slot layers columns k v e = rw e
+pub zero_is : (v : ℤ) → non_neg v ≡ true → eqb (of_z w64 v) 0 ≡ eqb (nat_abs v) 0
+zero_is (pos n) e = refl
+zero_is (negsuc n) e = absurd (false≢true e)
+
+pub ruleset signs = (sign_is, zero_is, to_z-of_z)
 
 -- ---- the first k slots' losses
 pub loss_none : (l : List ℤ) → loss_sum 0 l ≡ 0
@@ -38,7 +54,4 @@ pub loss_most : (l : List ℤ) (k n : ℕ) → k ≤ n → loss_sum k l ≤ loss
 unfolding loss_sum
 loss_most l k n h = let e : n ≡ k + (n - k) = omega arith in rw e (omega (arith, sum_parts (λ k. nat_abs (get_or l k (pos 0))) 0 k (n - k)))
 
-pub rest_is : (left rest sum total : ℕ) → left + sum ≡ total → eqb left rest ≡ eqb (sum + rest) total
-rest_is left rest sum total e =
-    same_test (eqb left rest) (eqb (sum + rest) total) (λ q. eq-eqb (sum + rest) total (omega (arith, eqb-true left rest q)))
-    (λ q. eq-eqb left rest (omega (arith, eqb-true (sum + rest) total q)))
+pub ruleset losses = (loss_none, loss_more, loss_most, to_z-of_z)
