@@ -1,13 +1,7 @@
 -- 10 and 11 by slot are the network's by place: laws only, nothing to believe.
 --     well_network       10, and (table_network) 11, for losses by slot that are the losses by place
-use Rattle.std.specs.Prelude.{◌≡◌, Bool, List, map, ℤ, pos}
-use Rattle.std.proofs.Math.Path.{refl, sym, ap}
-use Rattle.std.proofs.Common.{◌∙◌}
-use Rattle.std.proofs.Math.Bool.{true, false, not}
+use Rattle.std.proofs.Common.{◌≡◌, Bool, List, map, ℤ, pos, refl, sym, ap, ◌∙◌, true, false, not, ℕ, zero, suc, ◌+◌, ◌*◌, ◌-◌, ◌≤◌, ◌<◌, arith, get_or}
 use mathlib.Core.List.Memᴰ
-use Prim.Native.Nat.{ℕ, zero, suc, ◌+◌, ◌*◌, ◌-◌, ◌≤◌, ◌<◌}
-use native.Mathlib.Omega.{arith}
-use Rattle.std.proofs.Math.ListN.{get_or}
 use Rattle.std.specs.Int.Signed.{lt_z}
 use borrow.Author.Tests.{not-true}
 use Rattle.laws.specs.Lists.{all_below, range}

@@ -1,14 +1,6 @@
 -- The high word of a loss times the multiplier of its storage is the drawdown, or one less; and stores in an array of multipliers.
-use mathlib.Core.Path.{◌≡◌, refl, ap, subst}
-use mathlib.Core.List.{List, [], ◌∷◌}
-use Prim.Native.Nat.{ℕ, zero, suc, ◌+◌, ◌*◌, ◌-◌, ◌/◌, ◌%◌, ◌^◌, ◌≤◌, ◌<◌}
-use native.Mathlib.Nat.{mul_assoc, mul-le-mul_left, mul-le-mul_right, div-add-mod', mod-lt, div-lt_iff_lt-mul, lt_of_mul-lt-mul_right}
-use native.Mathlib.Omega.{arith}
-use lib.IntN.{ℤ, pos, nat_abs, ◌*ℤ◌}
-use lib.ListN.{get_or, set, replicate}
-use lib.Signed.{◌≤ℤ◌, shr_z}
-use mir.Syntax.{w64}
-use mir.Val.{SFits}
+use Rattle.std.proofs.Common.{◌≡◌, refl, ap, subst, List, [], ◌∷◌, ℕ, zero, suc, ◌+◌, ◌*◌, ◌-◌, ◌/◌, ◌%◌, ◌^◌, ◌≤◌, ◌<◌, mul_assoc, mul-le-mul_left, mul-le-mul_right, div-add-mod', mod-lt, div-lt_iff_lt-mul, lt_of_mul-lt-mul_right, arith, ℤ, pos, nat_abs, ◌*ℤ◌, get_or, set, replicate, ◌≤ℤ◌, w64, SFits}
+use lib.Signed.{shr_z}
 use Rattle.laws.specs.Divide.{divided}
 use Rattle.laws.specs.Fill.{get_or_same}
 use Rattle.laws.specs.Integer.{natural, ≤ℤ_pos}

@@ -17,9 +17,10 @@ pub fn drawdown(v: i64, s: u64) -> u64
     ensures { pos result ≡ depth_of v s }
 {
     if s == 0 {
-        return 0;
+        0
+    } else {
+        quotient_word(v as u64, 1_000_000, s)
     }
-    quotient_word(v as u64, 1_000_000, s)
 }
 
 // The multiplier of a storage, 10^6 × 2^64 / S; 0 for one up to 10^6, where it would pass a word.
@@ -27,10 +28,11 @@ pub fn multiplier(s: u64) -> u64
     ensures { Stands result s }
 {
     if s <= 1_000_000 {
-        return 0;
+        0
+    } else {
+        // 10^6 × 2^32 times 2^32
+        quotient_word(4_294_967_296_000_000, 4_294_967_296, s)
     }
-    // 10^6 × 2^32 times 2^32
-    quotient_word(4_294_967_296_000_000, 4_294_967_296, s)
 }
 
 // The multipliers of the first `cells` slots.
@@ -38,11 +40,9 @@ pub fn multipliers(storages: &[u64; CELL_PLACES], cells: usize) -> [u64; CELL_PL
     requires { cells ≤ 1000 }
     ensures { Multiplied result storages.now }
 {
-    let mut out: [u64; CELL_PLACES] = [0; CELL_PLACES];
-    let mut k: usize = 0;
-    while k < cells {
+    let mut out = [0; CELL_PLACES];
+    for k in 0..cells {
         out[k] = multiplier(storages[k]);
-        k += 1;
     }
     out
 }
@@ -63,9 +63,10 @@ pub fn drawdown_by(v: i64, s: u64, multiplier: u64) -> u64
     ensures { pos result ≡ depth_of v s }
 {
     if multiplier == 0 {
-        return drawdown(v, s);
+        drawdown(v, s)
+    } else {
+        by_multiplier(v as u64, s, multiplier)
     }
-    by_multiplier(v as u64, s, multiplier)
 }
 
 // D of `width` cells of a layer, the first of them in slot `start`.
@@ -82,11 +83,9 @@ fn row<'a>(
     requires multiplied { Multiplied multipliers.now storages.now }
     ensures { map pos depths.new ≡ span start width (depth_at losses.now storages.now) (map pos depths.old) }
 {
-    let mut n: usize = 0;
-    while n < width {
+    for n in 0..width {
         let k = start + n;
         depths[k] = drawdown_by(losses[k], storages[k], multipliers[k]);
-        n += 1;
     }
 }
 
@@ -104,8 +103,7 @@ pub fn drawdowns<'a>(
     requires multiplied { Multiplied multipliers.now storages.now }
     ensures { map pos depths.new ≡ spans stored layers (depth_at losses.now storages.now) (map pos depths.old) }
 {
-    let mut i: usize = 0;
-    while i < layers {
+    for i in 0..layers {
         row(
             losses,
             storages,
@@ -114,7 +112,6 @@ pub fn drawdowns<'a>(
             stored,
             depths,
         );
-        i += 1;
     }
 }
 
@@ -129,8 +126,14 @@ pub fn plain_drawdowns<'a>(
     requires by_index { (k : ℕ) → k < 50 * layers → (pos 0 ≤ℤ get_or losses.now k (pos 0)) × (depth_at losses.now storages.now k ≤ℤ pos drawdown_limit) × (get_or storages.now k 0 < 2 ^ 63) }
     ensures { map pos result ≡ spans stored layers (depth_at losses.now storages.now) (replicate 1000 (pos 0)) }
 {
-    let none: [u64; CELL_PLACES] = [0; CELL_PLACES];
-    let mut depths: [u64; CELL_PLACES] = [0; CELL_PLACES];
-    drawdowns(losses, storages, &none, layers, stored, &mut depths);
+    let mut depths = [0; CELL_PLACES];
+    drawdowns(
+        losses,
+        storages,
+        &[0; CELL_PLACES],
+        layers,
+        stored,
+        &mut depths,
+    );
     depths
 }

@@ -10,7 +10,7 @@ returns-then-s-eq0 c = sym (depth_is _ c.requires.0 ∙ rw (c.if-s-eq0.true, div
 pub quotient_word-requires : goal.quotient_word-requires
 quotient_word-requires c = rw (to_z-of_z c.ranges.v) (omega arith, lt_of_le_of_lt (depth_small c.args.s c.requires.0 c.requires.1) (lit< tt))
 
-pub returns : goal.returns
-returns c =
+pub returns-else-s-eq0 : goal.returns-else-s-eq0
+returns-else-s-eq0 c =
     let s = c in
     ap pos (rw (to_z-of_z s.ranges.v) at c.quotient_word.ensures) ∙ sym (depth_is s.args.s s.requires.0)

@@ -6,7 +6,7 @@ use Rattle.laws.specs.Words.{words_span}
 use Rattle.step_drawdowns.proofs.row.Goals as goal
 
 pub loop-n-init : goal.loop-n-init
-loop-n-init c = (omega arith, sym (span_none _ _ _))
+loop-n-init c = sym (span_none _ _ _)
 
 pub drawdown_by-requires : goal.drawdown_by-requires
 unfolding depth_at
@@ -22,8 +22,6 @@ unfolding depth_at
 loop-n-preserved c =
     let at = c in
     let a = at.args in
-    let f : SFits w64 (get_or a.losses.now (a.start + at.loop-n.n) (pos 0)) = search rules in (
-      omega arith,
-      words_span (depth_at a.losses.now a.storages.now) (map pos a.depths.now) at.loop-n.depths a.start at.loop-n.n at.loop-n.invariant.1
-          (c.drawdown_by.ensures ∙ rw (to_z-of_z f)),
-    )
+    let f : SFits w64 (get_or a.losses.now (a.start + at.loop-n.n) (pos 0)) = search rules in
+    words_span (depth_at a.losses.now a.storages.now) (map pos a.depths.now) at.loop-n.depths a.start at.loop-n.n at.loop-n.invariant
+    (c.drawdown_by.ensures ∙ rw (to_z-of_z f))
