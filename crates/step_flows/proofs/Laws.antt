@@ -1,11 +1,5 @@
 -- What the leaves work out: C in use in layer 1 and below it and the water of a face, as whole quotients of words; and the rows of the water downward.
-use mathlib.Core.Path.{◌≡◌, sym, ap, ◌∙◌}
-use mathlib.Core.List.{List}
-use Prim.Native.Nat.{ℕ, ◌+◌, ◌*◌, ◌-◌, ◌/◌, ◌^◌, ◌≤◌, ◌<◌}
-use native.Mathlib.Nat.{mul_assoc, mul-le-mul}
-use native.Mathlib.Omega.{arith}
-use borrow.Author.Tests.{lt-ltb, le-ltb}
-use lib.IntN.{ℤ, pos, neg_ℤ, nat_abs}
+use Rattle.std.proofs.Common.{◌≡◌, sym, ap, ◌∙◌, List, ℕ, ◌+◌, ◌*◌, ◌-◌, ◌/◌, ◌^◌, ◌≤◌, ◌<◌, mul_assoc, mul-le-mul, arith, lt-ltb, le-ltb, ℤ, pos, neg_ℤ, nat_abs}
 use Rattle.laws.specs.Fill.{fill, fill_ext}
 use Rattle.laws.specs.Integer.{diff_le, abs_up_to}
 use Rattle.laws.specs.Signed.{abs_neg}

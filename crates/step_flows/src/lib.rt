@@ -12,7 +12,6 @@ ghost use Rattle.step_flows.specs.Flows.{reduced_c, reduced_at, table_c, Tabled,
 
 use geometry::from_table;
 use limits::{CELL_PLACES, COLUMN_PLACES};
-use words::Quotient;
 use words::divide::quotient_word;
 
 // C in use of a horizontal face of layer 1; `divisor` is 2000×b_1.
@@ -37,10 +36,8 @@ pub fn in_use<'a>(
     ensures { map pos conductances.new ≡ fill faces (reduced_at thickness horizontal.now depths.now) (map pos conductances.old) }
 {
     let divisor = 2000 * thickness;
-    let mut k: usize = 0;
-    while k < faces {
+    for k in 0..faces {
         conductances[k] = reduced(horizontal[k], depths[k], depths[k + 1], thickness, divisor);
-        k += 1;
     }
 }
 
@@ -50,10 +47,7 @@ pub fn at_table(a: u64, thickness: u64, kv1: u64, b2: u64, kv2: u64, here: u64) 
     requires here_bound { (here ≤ 1000 * thickness) × (from_table a kv1 b2 kv2 0 < 2 ^ 64) }
     ensures { pos result ≡ table_c a thickness kv1 b2 kv2 (pos here) }
 {
-    match from_table(a, kv1, b2, kv2, 1000 * thickness - here) {
-        Quotient::Word(c) => c,
-        Quotient::Over => 0,
-    }
+    from_table(a, kv1, b2, kv2, 1000 * thickness - here).unwrap()
 }
 
 // Water that crosses a face from drawdown `here` to drawdown `next` in dt.
@@ -83,11 +77,9 @@ fn down_row<'a>(
     requires by_index_2 { (n : ℕ) → n < width → nat_abs (flow_at vertical.now depths.now 50 dt (start + n)) ≤ total_limit }
     ensures { down.new ≡ span start width (flow_at vertical.now depths.now 50 dt) down.old }
 {
-    let mut n: usize = 0;
-    while n < width {
+    for n in 0..width {
         let k = start + n;
         down[k] = crossing(vertical[k], depths[k], depths[k + COLUMN_PLACES], dt);
-        n += 1;
     }
 }
 
@@ -108,13 +100,11 @@ fn table_row<'a>(
     requires by_index_2 { (k : ℕ) → k < stored → nat_abs (table_flow_at thickness kv1 b2 kv2 areas.now depths.now dt k) ≤ total_limit }
     ensures { down.new ≡ fill stored (table_flow_at thickness kv1 b2 kv2 areas.now depths.now dt) down.old }
 {
-    let mut k: usize = 0;
-    while k < stored {
+    for k in 0..stored {
         let here = depths[k];
         let below = depths[k + COLUMN_PLACES];
         let c = at_table(areas[k + 1], thickness, kv1, b2, kv2, here);
         down[k] = crossing(c, here, below, dt);
-        k += 1;
     }
 }
 
@@ -138,9 +128,7 @@ pub fn down_flows<'a>(
     ensures { down.new ≡ spans stored layers (down_flow_at thickness kv1 b2 kv2 areas.now vertical.now depths.now stored dt) down.old }
 {
     table_row(areas, depths, thickness, kv1, b2, kv2, stored, dt, down);
-    let mut i: usize = 1;
-    while i < layers {
+    for i in 1..layers {
         down_row(vertical, depths, COLUMN_PLACES * i, stored, dt, down);
-        i += 1;
     }
 }

@@ -18,7 +18,7 @@ pub loop-i-preserved : goal.loop-i-preserved
 loop-i-preserved c =
     let a = c.args in
     let j = down_joined a.thickness a.kv1 a.b2 a.kv2 a.areas.now a.vertical.now a.depths.now a.stored a.dt in
-    (omega arith, omega arith, λ old e. next_row j old c.loop-i.i (omega arith) (omega arith) (c.loop-i.invariant.2 old e) c.down_row.ensures)
+    λ old e. next_row j old c.loop-i.i (omega arith) (omega arith) (c.loop-i.invariant old e) c.down_row.ensures
 
 pub returns : goal.returns
 returns c =
@@ -26,4 +26,4 @@ returns c =
     let j = down_joined a.thickness a.kv1 a.b2 a.kv2 a.areas.now a.vertical.now a.depths.now a.stored a.dt in
     let e : c.loop-i.i ≡ a.layers = omega arith in
     let old = a.down.now in
-    c.loop-i.invariant.2 old (first-row j old c.table_row.ensures) ∙ rw e
+    c.loop-i.invariant old (first-row j old c.table_row.ensures) ∙ rw e

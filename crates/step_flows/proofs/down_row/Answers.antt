@@ -6,16 +6,14 @@ use Rattle.step_flows.specs.Flows.{flow_at}
 use Rattle.step_flows.proofs.down_row.Goals as goal
 
 pub loop-n-init : goal.loop-n-init
-loop-n-init c = (omega arith, sym (span_none _ _ _))
+loop-n-init c = sym (span_none _ _ _)
 
 pub loop-n-preserved : goal.loop-n-preserved
 unfolding flow_at
 loop-n-preserved c =
-    let a = c.args in (
-      omega arith,
-      span_more (flow_at a.vertical.now a.depths.now 50 a.dt) a.down.now a.start c.loop-n.n c.loop-n.invariant.1
-          (back c.crossing.result c.crossing.type_inv ∙ c.crossing.ensures),
-    )
+    let a = c.args in
+    span_more (flow_at a.vertical.now a.depths.now 50 a.dt) a.down.now a.start c.loop-n.n c.loop-n.invariant
+    (back c.crossing.result c.crossing.type_inv ∙ c.crossing.ensures)
 
 pub crossing-requires-clause-dt_bound : goal.crossing-requires-clause-dt_bound
 unfolding flow_at

@@ -6,7 +6,7 @@ use Rattle.laws.specs.Words.{words_more}
 use Rattle.step_flows.proofs.in_use.Goals as goal
 
 pub loop-k-init : goal.loop-k-init
-loop-k-init c = (omega arith, refl, sym (fill_none _ _))
+loop-k-init c = (refl, sym (fill_none _ _))
 
 pub loop-k-preserved : goal.loop-k-preserved
 unfolding reduced_at
@@ -14,6 +14,5 @@ loop-k-preserved c =
     let at = c in
     let a = at.args in (
       omega arith,
-      omega arith,
-      words_more (reduced_at a.thickness a.horizontal.now a.depths.now) (map pos a.conductances.now) at.loop-k.conductances at.loop-k.k at.loop-k.invariant.2 c.reduced.ensures,
+      words_more (reduced_at a.thickness a.horizontal.now a.depths.now) (map pos a.conductances.now) at.loop-k.conductances at.loop-k.k at.loop-k.invariant.1 c.reduced.ensures,
     )

@@ -6,16 +6,14 @@ use Rattle.step_flows.specs.Flows.{table_flow_at}
 use Rattle.step_flows.proofs.table_row.Goals as goal
 
 pub loop-k-init : goal.loop-k-init
-loop-k-init c = (omega arith, sym (fill_none _ _))
+loop-k-init c = sym (fill_none _ _)
 
 pub loop-k-preserved : goal.loop-k-preserved
 unfolding table_flow_at
 loop-k-preserved c =
-    let a = c.args in (
-      omega arith,
-      fill_more (table_flow_at a.thickness a.kv1 a.b2 a.kv2 a.areas.now a.depths.now a.dt) a.down.now c.loop-k.k c.loop-k.invariant.1
-          (back c.crossing.result c.crossing.type_inv ∙ rw c.at_table-c.ensures at c.crossing.ensures),
-    )
+    let a = c.args in
+    fill_more (table_flow_at a.thickness a.kv1 a.b2 a.kv2 a.areas.now a.depths.now a.dt) a.down.now c.loop-k.k c.loop-k.invariant
+    (back c.crossing.result c.crossing.type_inv ∙ rw c.at_table-c.ensures at c.crossing.ensures)
 
 pub crossing-requires-clause-dt_bound : goal.crossing-requires-clause-dt_bound
 unfolding table_flow_at
