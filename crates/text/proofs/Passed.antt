@@ -1,20 +1,17 @@
 -- A text read up to the start of a line, and what the next line makes of it.
-use mathlib.Core.Path.{◌≡◌, refl, sym, ◌∙◌}
-use mathlib.Core.Bool.{Bool, true, false, ◌&&◌, and-false}
-use mathlib.Core.List.{List, [], ◌∷◌, ◌++◌, append-nil, get_last_d}
-use Prim.Native.Nat.{ℕ, ◌+◌, ◌-◌, ◌<◌, ◌≤◌}
-use native.Mathlib.Omega.{arith}
-use lib.Dec.{eqb}
-use lib.ListN.{length, take, drop, set, replicate, length-append, length-drop, drop_of_length-le}
-use lib.Seq.{drop-drop, append_snoc}
-use borrow.Author.Tests.{le-leb, lt-leb, ne_eqb}
+use Rattle.std.proofs.Common.{◌≡◌, refl, sym, ◌∙◌, Bool, true, false, ◌&&◌, Option, Some, None, List, [], ◌∷◌, ◌++◌, ℕ, ◌+◌, ◌-◌, ◌<◌, ◌≤◌, eqb, length, take, drop, set, replicate, position, arith, length-append, le-leb, ne_eqb}
+use Rattle.std.proofs.lemmas.Bool.{lt-leb}
+use Rattle.std.proofs.Math.Bool.{and-false}
+use Rattle.std.proofs.lemmas.List.{length-drop, take_all, append-nil}
+use Rattle.std.proofs.Math.Seq.{append_snoc}
+use mathlib.Core.List.{get_last_d}
 use Rattle.laws.specs.Lists.{every, padded}
 use Rattle.laws.specs.Padded.{padded_none, padded_more, length-padded}
 use Rattle.decimal.specs.Decimal.{numeral, value}
 use Rattle.text.specs.declared.Numbers.{Numbers}
 use Rattle.limits.specs.Limits.{text_limit, number_places}
-use Rattle.text.specs.Text.{pieces, lines, unended, well_formed, numbers, formed_with, malformed, read_of}
-use Rattle.text.proofs.Lines.{first_from, first_within, one_piece, first_line, lines_line, last_line}
+use Rattle.text.specs.Text.{pieces, lines, unended, well_formed, numbers, formed_with, read_of}
+use Rattle.text.proofs.Lines.{is_feed, first_line, one_piece, lines_line, last_line}
 
 -- the form of what is left of a text: its last line ended, and each line a decimal whole number
 abbrev in_form : List ℕ → Bool
@@ -33,8 +30,8 @@ module _ (s p rest : List ℕ) (e : pieces s ≡ p ∷ pieces rest) where
   unfolding numbers
   number_line = rw (lines_line s p rest e)
 
--- a text with no line feed is not ended
-not_ended : (s : List ℕ) → 1 ≤ length s → pieces s ≡ s ∷ [] → in_form s ≡ false
+-- a text with no line feed is not ended, unless it is empty
+not_ended : (s : List ℕ) → 0 < length s → pieces s ≡ s ∷ [] → in_form s ≡ false
 unfolding unended get_last_d
 not_ended s h e = rw (e, ne_eqb (length s) 0 (λ z. omega arith))
 
@@ -51,75 +48,66 @@ judged : (text : List ℕ) → length text ≤ text_limit → well_formed text �
 unfolding well_formed
 judged text h = rw (le-leb (length text) text_limit h)
 
-refused : (text : List ℕ) → well_formed text ≡ false → malformed ≡ read_of text
+refused : (text : List ℕ) → well_formed text ≡ false → None ≡ read_of text
 unfolding read_of
 refused text e = rw e
 
-pub too_long : (text : List ℕ) → text_limit < length text → malformed ≡ read_of text
+pub too_long : (text : List ℕ) → text_limit < length text → None ≡ read_of text
 unfolding well_formed
 too_long text h = refused text (rw (lt-leb (length text) text_limit h))
 
--- the lines before the byte at have been read: their numbers are counted and kept
-pub record Passed (text : List ℕ) (at count : ℕ) (values : List ℕ) : Type 0 where
+-- the lines before the rest have been read: their numbers are counted and kept
+pub record Passed (text rest : List ℕ) (count : ℕ) (values : List ℕ) : Type 0 where
   pub read : List ℕ
-  pub within : at ≤ length text
-  pub few : count ≤ at
+  pub few : count + length rest ≤ length text
   pub counted : count ≡ length read
   pub kept : values ≡ padded number_places 0 read
-  pub form : in_form text ≡ in_form (drop at text)
-  pub rest : numbers text ≡ read ++ numbers (drop at text)
+  pub form : in_form text ≡ in_form rest
+  pub are : numbers text ≡ read ++ numbers rest
 
-pub passed_none : (text values : List ℕ) → values ≡ replicate number_places 0 → Passed text 0 0 values
+pub passed_none : (text values : List ℕ) → values ≡ replicate number_places 0 → Passed text text 0 values
 passed_none text values e = record {
   read = [];
-  within = omega arith;
   few = omega arith;
   counted = refl;
   kept = e ∙ sym (padded_none number_places 0);
   form = refl;
-  rest = refl;
+  are = refl;
 }
 
-module _ (text : List ℕ) (at count : ℕ) (values : List ℕ) (so_far : Passed text at count values) where
+module _ (text rest : List ℕ) (count : ℕ) (values : List ℕ) (so_far : Passed text rest count values) where
   pub values_length : length values ≡ number_places
   values_length = rw so_far.kept (length-padded number_places 0 so_far.read)
 
-  pub end_within : at + first_from text at ≤ length text
-  end_within = omega (arith, first_within (drop at text), length-drop at text, so_far.within)
-
   module _ (fits : length text ≤ text_limit) where
     -- past the last line
-    pub all_passed : length text ≤ at → ◌≡◌ {A = Numbers} (record { formed = true; count = count; values = values }) (read_of text)
+    pub all_passed : rest ≡ [] → ◌≡◌ {A = Option Numbers} (Some (record { count = count; values = values })) (read_of text)
     unfolding read_of formed_with
-    all_passed h =
-        let none : drop at text ≡ [] = drop_of_length-le text h in
+    all_passed none =
         let formed : well_formed text ≡ true = judged text fits ∙ so_far.form ∙ rw none empty_form in
-        let all : numbers text ≡ so_far.read = so_far.rest ∙ rw (none, no_numbers) (append-nil so_far.read) in
+        let all : numbers text ≡ so_far.read = so_far.are ∙ rw (none, no_numbers) (append-nil so_far.read) in
         rw (formed, all, so_far.counted, so_far.kept)
 
     -- a last line with no line feed
-    pub last-unended : at < length text → at + first_from text at ≡ length text → malformed ≡ read_of text
-    last-unended h e = refused text (judged text fits ∙ so_far.form ∙ not_ended (drop at text) (omega (arith, length-drop at text)) (one_piece (drop at text) (omega (arith, length-drop at text))))
+    pub last-unended : 0 < length rest → position is_feed rest ≡ None → None ≡ read_of text
+    last-unended h e = refused text (judged text fits ∙ so_far.form ∙ not_ended rest h (one_piece rest e))
 
-  module _ (end : ℕ) (ends : end ≡ at + first_from text at) (inside : end < length text) where
-    here : pieces (drop at text) ≡ take (end - at) (drop at text) ∷ pieces (drop (end + 1) text)
-    here =
-        let after : at + (end - at + 1) ≡ end + 1 = omega (arith, ends) in
-        first_line (drop at text) (end - at) (omega (arith, ends)) (omega (arith, length-drop at text)) ∙ rw (drop-drop (end - at + 1) at text, after)
+  module _ (n : ℕ) (ends : position is_feed rest ≡ Some n) where
+    pub line_malformed : length text ≤ text_limit → numeral (take n rest) ≡ false → None ≡ read_of text
+    line_malformed fits d = refused text (judged text fits ∙ so_far.form ∙ bad_line rest (take n rest) (drop (n + 1) rest) (first_line rest n ends).1 d)
 
-    pub line_malformed : length text ≤ text_limit → numeral (take (end - at) (drop at text)) ≡ false → malformed ≡ read_of text
-    line_malformed fits d = refused text (judged text fits ∙ so_far.form ∙ bad_line (drop at text) (take (end - at) (drop at text)) (drop (end + 1) text) here d)
-
-    pub passed_more : (v : ℕ) → numeral (take (end - at) (drop at text)) ≡ true → value (take (end - at) (drop at text)) ≡ v → Passed text (end + 1) (count + 1) (set values count v)
-    passed_more v d q = record {
-      read = so_far.read ++ (v ∷ []);
-      within = omega arith;
-      few = omega (arith, so_far.few);
-      counted = omega (arith, so_far.counted, length-append so_far.read (v ∷ []));
-      kept = rw (so_far.kept, so_far.counted) (padded_more number_places 0 so_far.read v);
-      form = so_far.form ∙ good_line (drop at text) (take (end - at) (drop at text)) (drop (end + 1) text) here d;
-      rest =
-          so_far.rest
-          ∙ rw (number_line (drop at text) (take (end - at) (drop at text)) (drop (end + 1) text) here, q)
-          (sym (append_snoc so_far.read v (numbers (drop (end + 1) text))));
-    }
+    pub passed_more : (v : ℕ) → numeral (take n rest) ≡ true → value (take n rest) ≡ v → Passed text (take (length rest - (n + 1)) (drop (n + 1) rest)) (count + 1) (set values count v)
+    passed_more v d q =
+        let here = first_line rest n ends in
+        let whole : take (length rest - (n + 1)) (drop (n + 1) rest) ≡ drop (n + 1) rest = take_all _ (drop (n + 1) rest) (omega (arith, length-drop (n + 1) rest)) in
+        rw whole record {
+          read = so_far.read ++ (v ∷ []);
+          few = omega (arith, so_far.few, here.0, length-drop (n + 1) rest);
+          counted = omega (arith, so_far.counted, length-append so_far.read (v ∷ []));
+          kept = rw (so_far.kept, so_far.counted) (padded_more number_places 0 so_far.read v);
+          form = so_far.form ∙ good_line rest (take n rest) (drop (n + 1) rest) here.1 d;
+          are =
+              so_far.are
+              ∙ rw (number_line rest (take n rest) (drop (n + 1) rest) here.1, q)
+              (sym (append_snoc so_far.read v (numbers (drop (n + 1) rest))));
+        }

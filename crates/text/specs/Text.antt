@@ -1,6 +1,6 @@
 -- The scenario text (01, "The scenario text"): decimal whole numbers, one a line, each ended by a line feed,
 -- at most 65,536 bytes in all. A text is the list of its bytes.
-use Rattle.std.specs.Prelude.{Bool, true, false, ◌&&◌, cond, ℕ, leb, eqb, length, replicate}
+use Rattle.std.specs.Prelude.{Option, Some, None, Bool, ◌&&◌, cond, ℕ, leb, eqb, length}
 use mathlib.Core.List.{List, [], ◌∷◌, map, drop_last, get_last_d}
 use Rattle.limits.specs.Limits.{text_limit, number_places}
 use Rattle.laws.specs.Lists.{every, padded}
@@ -38,12 +38,8 @@ numbers text = map value (lines text)
 
 -- the answer for a text with the numbers ns: how many there are, and the first of them, with 0 after the last
 unfoldable pub formed_with : List ℕ → Numbers
-formed_with ns = record { formed = true; count = length ns; values = padded number_places 0 ns }
+formed_with ns = record { count = length ns; values = padded number_places 0 ns }
 
--- the answer for a text that does not have the form
-unfoldable pub malformed : Numbers
-malformed = record { formed = false; count = 0; values = replicate number_places 0 }
-
--- what reading a text gives
-unfoldable pub read_of : List ℕ → Numbers
-read_of text = cond (well_formed text) (formed_with (numbers text)) malformed
+-- what reading a text gives: none where it does not have the form
+unfoldable pub read_of : List ℕ → Option Numbers
+read_of text = cond (well_formed text) (Some (formed_with (numbers text))) None

@@ -1,37 +1,27 @@
 // The scenario text: its lines to numbers.
 #![tactic(auto)]
 
-ghost use Rattle.std.specs.Prelude.{◌≡◌, [], ◌+◌, ◌≤◌, length, get_or, drop, set};
+ghost use Rattle.std.specs.Prelude.{◌≡◌, ◌==◌, length, position, set};
 ghost use Rattle.limits.specs.Limits.{number_places};
-ghost use Rattle.text.specs.Text.{pieces, malformed, read_of};
+ghost use Rattle.text.specs.Text.{line_feed, read_of};
 
-use decimal::Decimal;
 use limits::{NUMBER_PLACES, TEXT_LIMIT};
 
 // What ends a line.
 const LINE_FEED: u8 = b'\n';
 
-// The numbers of a text: whether it has the form, how many there are, and the first of them, with 0 after the last.
+// The numbers of a text: how many there are, and the first of them, with 0 after the last.
 #[derive(Clone, Copy)]
 pub struct Numbers {
-    pub formed: bool,
     pub count: usize,
     pub values: [u64; NUMBER_PLACES],
 }
 
-// Where the line that begins at a byte ends: its line feed, or the end of the text.
-fn line_end(text: &[u8], from: usize) -> usize
-    requires { from ≤ length text.now }
-    ensures { result ≡ from + length (get_or (pieces (drop from text.now)) 0 []) }
+// Where the first line of a text ends: its line feed, if there is one.
+fn line_end(text: &[u8]) -> Option<usize>
+    ensures { result ≡ position (λ c. c == line_feed) text.now }
 {
-    let mut i = from;
-    while i < text.len() {
-        if text[i] == LINE_FEED {
-            return i;
-        }
-        i += 1;
-    }
-    i
+    text.iter().position(|c| *c == LINE_FEED)
 }
 
 // A number kept at its place, if there is one.
@@ -44,42 +34,24 @@ fn keep(values: &mut [u64; NUMBER_PLACES], at: usize, v: u64)
     }
 }
 
-// The answer for a text that does not have the form.
-fn malformed() -> Numbers
-    ensures { result ≡ malformed }
-{
-    Numbers {
-        formed: false,
-        count: 0,
-        values: [0; NUMBER_PLACES],
-    }
-}
-
-// The numbers of a text.
-pub fn read(text: &[u8]) -> Numbers
+// The numbers of a text, if it has the form.
+pub fn read(text: &[u8]) -> Option<Numbers>
     ensures { result ≡ read_of text.now }
 {
     if TEXT_LIMIT < text.len() {
-        return malformed();
+        return None;
     }
-    let mut values: [u64; NUMBER_PLACES] = [0; NUMBER_PLACES];
-    let mut count: usize = 0;
-    let mut at: usize = 0;
-    while at < text.len() {
-        let end = line_end(text, at);
-        if end == text.len() {
-            return malformed();
-        }
-        let Decimal::Number(v) = decimal::read(&text[at..end]) else {
-            return malformed();
-        };
+    let mut values = [0; NUMBER_PLACES];
+    let mut count = 0;
+    let mut rest = text;
+    while let Some(end) = line_end(rest) {
+        let v = decimal::read(&rest[..end])?;
         keep(&mut values, count, v);
         count += 1;
-        at = end + 1;
+        rest = &rest[end + 1..];
     }
-    Numbers {
-        formed: true,
-        count,
-        values,
+    if !rest.is_empty() {
+        return None;
     }
+    Some(Numbers { count, values })
 }
