@@ -1,9 +1,7 @@
 -- What the code works on the way to the record at the start: Λ and areas once a column, and slots of 64 bits.
-use Rattle.std.specs.Prelude.{◌≡◌, Bool, cond, List, ℕ, ◌-◌, ◌^◌, ◌<◌, ◌≤◌, get_or, replicate}
+use Rattle.std.specs.Prelude.{◌≡◌, Bool, cond, List, ℕ, ◌-◌, ◌^◌, ◌<◌, ◌≤◌, get_or, replicate, Option, Some, None}
 use Rattle.laws.specs.Fill.{fill}
 use Rattle.limits.specs.Limits.{column_places}
-use Rattle.words.specs.declared.Quotient.{Quotient}
-use Rattle.words.specs.declared.Quotient.TheVariants.{Word, Over}
 use Rattle.words.specs.Fitted.{fitted}
 use Rattle.site.specs.declared.Site.{Site}
 use Rattle.site.specs.Site.{radii_of}
@@ -31,9 +29,9 @@ pub record Areas (s : Site) (l : List ℕ) : Type 0 where
   pub most : (j : ℕ) → j < s.columns → get_or l j 0 ≤ 2 ^ 44
 
 -- a quotient as a word of 64 bits: the largest, which is over each limit of 6, stands for one that fits none
-abbrev pub word_of : Quotient → ℕ
-word_of (Word n) = n
-word_of Over = 2 ^ 64 - 1
+abbrev pub word_of : Option ℕ → ℕ
+word_of (Some n) = n
+word_of None = 2 ^ 64 - 1
 
 unfoldable pub capped : ℕ → ℕ
 capped n = word_of (fitted n)

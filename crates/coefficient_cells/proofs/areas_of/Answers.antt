@@ -10,26 +10,25 @@ use Rattle.coefficient_cells.proofs.areas_of.Goals as goal
 pub loop-j-init : goal.loop-j-init
 loop-j-init c =
     let well = c.requires.numbers.well in
-    (c.requires.counts.columns_most, omega arith, refl, refl, omega arith, omega arith, sym (fill_none _ _))
+    (c.requires.counts.columns_most, refl, refl, omega arith, omega arith, sym (fill_none _ _))
 
 pub loop-j-preserved : goal.loop-j-preserved
 loop-j-preserved c =
     let inv = c.loop-j.invariant in
     let rises = c.requires.rises c.loop-j.j (omega arith) in
     let of-radii : c.area.result ≡ area c.loop-j.radius c.loop-j.previous = c.area.ensures.0 in
-    let ring : c.area.result ≡ area_at c.args.site c.loop-j.j = of-radii ∙ area_is _ c.loop-j.j _ _ inv.2 inv.3 in
+    let ring : c.area.result ≡ area_at c.args.site c.loop-j.j = of-radii ∙ area_is _ c.loop-j.j _ _ inv.1 inv.2 in
     let back : c.loop-j.j + 1 - 1 ≡ c.loop-j.j = omega arith in (
       omega arith,
-      omega arith,
       rw add-one,
-      rw back inv.2,
+      rw back inv.1,
       omega arith,
       omega arith,
-      fill_more _ _ c.loop-j.j inv.6 ring,
+      fill_more _ _ c.loop-j.j inv.5 ring,
     )
 
 pub returns : goal.returns
 unfolding areas_of
 returns c =
     let e : c.loop-j.j ≡ c.args.site.columns = omega arith in
-    c.loop-j.invariant.6 ∙ rw e
+    c.loop-j.invariant.5 ∙ rw e

@@ -7,12 +7,9 @@ use Rattle.coefficient_cells.proofs.areas_of.Given as goal
 
 abbrev pub invariant-loop-j : goal.invariant-loop-j
 invariant-loop-j l =
-    (l.m ≤ 50) × (l.j ≤ l.m)
+    (l.m ≤ 50)
     × (l.radius ≡ get_or (radii_of l.site) l.j 0)
     × (l.previous ≡ get_or (radii_of l.site) (l.j - 1) 0)
     × (l.previous ≤ l.radius)
     × (l.radius ≤ 2000000)
     × (l.areas ≡ fill l.j (area_at l.site) (replicate 50 0))
-
-abbrev pub decreases-loop-j : goal.decreases-loop-j
-decreases-loop-j l = l.m - l.j
