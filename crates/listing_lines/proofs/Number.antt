@@ -1,12 +1,5 @@
 -- A number's digits after a line, and the byte after them.
-use mathlib.Core.Path.{◌≡◌, ap, ◌∙◌}
-use mathlib.Core.List.{[], ◌∷◌, ◌++◌}
-use Prim.Native.Nat.{ℕ, ◌+◌, ◌^◌, ◌≤◌, ◌<◌}
-use native.Mathlib.Omega.{arith}
-use lib.IntN.{ℤ, pos, negsuc, nat_abs}
-use lib.ListN.{length, take}
-use lib.Signed.{◌≤ℤ◌, mag}
-use Rattle.laws.specs.Padded.{length-padded}
+use Rattle.std.proofs.Common.{◌≡◌, ap, ◌∙◌, [], ◌∷◌, ◌++◌, ℕ, ◌+◌, ◌^◌, ◌≤◌, ◌<◌, arith, length, take}
 use Rattle.decimal.specs.declared.Digits.{Digits}
 use Rattle.decimal.specs.Decimal.{digits_of, digit_places, written_of}
 use Rattle.decimal.specs.Laws.{few_digits}
@@ -19,20 +12,13 @@ module _ (n : ℕ) (word : n < 2 ^ 64) (d : Digits) (e : d ≡ written_of n) whe
   few : length (digits_of n) ≤ digit_places
   few = few_digits digit_places n (omega arith) (omega arith)
 
-  pub count_fits : d.count ≤ length d.bytes
+  pub count_fits : d.count ≤ digit_places
   unfolding written_of
-  count_fits = rw (e, length-padded digit_places 0 (digits_of n)) few
+  count_fits = rw e few
 
   pub digits_are : take d.count d.bytes ≡ digits_of n
   unfolding written_of
   digits_are = rw e (take-padded digit_places (digits_of n) few)
-
-  pub count_is : d.count ≡ length (take d.count d.bytes)
-  unfolding written_of
-  count_is = rw digits_are (ap (λ d. d.count) e)
-
-  pub count_most : length (take d.count d.bytes) ≤ digit_places
-  count_most = rw digits_are few
 
   module _ (x : Line) (y : Line) (grown : y ≡ appended x (take d.count d.bytes)) where
     pub room_left : y.length ≤ x.length + digit_places
@@ -40,8 +26,3 @@ module _ (n : ℕ) (word : n < 2 ^ 64) (d : Digits) (e : d ≡ written_of n) whe
 
     pub with_end : (z : Line) (end : ℕ) → z ≡ followed y end → (z ≡ appended x (digits_of n ++ (end ∷ []))) × (z.length ≤ x.length + field_bytes)
     with_end z end q = (q ∙ ap (λ l. followed l end) (grown ∙ ap (appended x) digits_are) ∙ appended_more x (digits_of n) end, rw q (omega (arith, room_left)))
-
--- a number that is not negative is a word
-pub natural_word : (x : ℤ) → pos 0 ≤ℤ x → mag x < 2 ^ 63 → nat_abs x < 2 ^ 64
-natural_word (pos n) h m = omega arith
-natural_word (negsuc n) h m = absurd h.le

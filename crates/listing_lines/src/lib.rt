@@ -10,7 +10,7 @@ ghost use Rattle.listing_lines.specs.Appended.{followed as Appended·followed};
 // Room for any line: seven figures of at most 20 bytes, each with the space or line feed after it.
 const LINE_BYTES: usize = 147;
 
-// A line of the listing: its bytes, and 0 after the last.
+// A line of the listing: its bytes, and 0 after the last. No ArrayVec: the definition `held` of specs/Lines names this form.
 #[derive(Clone, Copy)]
 pub struct Line {
     pub bytes: [u8; LINE_BYTES],
@@ -31,13 +31,10 @@ fn followed(line: Line, byte: u8) -> Line
     requires { line.length < line_bytes }
     ensures { result ≡ Appended·followed line byte }
 {
-    let at = line.length;
-    let mut bytes = line.bytes;
-    bytes[at] = byte;
-    Line {
-        bytes,
-        length: at + 1,
-    }
+    let mut longer = line;
+    longer.bytes[line.length] = byte;
+    longer.length += 1;
+    longer
 }
 
 // The line with a word more.
@@ -46,23 +43,20 @@ pub fn with_word(line: Line, word: &[u8]) -> Line
     ensures { (result ≡ appended line word.now) × (result.length ≡ line.length + length word.now) }
 {
     let mut longer = line;
-    let mut i = 0;
-    while i < word.len() {
-        longer = followed(longer, word[i]);
-        i += 1;
+    for byte in word {
+        longer = followed(longer, *byte);
     }
     longer
 }
 
 // The line with a number in decimal digits, and the byte after it.
+#[tactic(auto, using(crate::proofs::Number::count_fits))]
 pub fn with_number(line: Line, n: u64, end: u8) -> Line
     requires { line.length + field_bytes ≤ line_bytes }
     ensures { (result ≡ appended line (digits_of n ++ (end ∷ []))) × (result.length ≤ line.length + field_bytes) }
 {
     let digits = decimal::write(n);
-    let bytes = digits.bytes;
-    let count = digits.count;
-    let longer = with_word(line, &bytes[..count]);
+    let longer = with_word(line, &digits.bytes[..digits.count]);
     followed(longer, end)
 }
 

@@ -1,5 +1,5 @@
--- `listing_lines::with_word`: after i turns the line has the first i bytes of the word more.
-use Rattle.std.proofs.Common.{◌≡◌, sym, ap, ◌∙◌, List, ℕ, ◌+◌, ◌≤◌, ◌<◌, add-one, arith, length, get_or, take, take_all, take-suc, length-take-le, rules}
+-- `listing_lines::with_word`: after i bytes of the word the line has these more.
+use Rattle.std.proofs.Common.{◌≡◌, sym, ap, ◌∙◌, List, ℕ, ◌+◌, ◌≤◌, ◌<◌, add-one, arith, length, get_or, take, take_all, take-suc, length-take-le}
 use Rattle.listing_lines.specs.declared.Line.{Line}
 use Rattle.listing_lines.specs.Appended.{followed, appended}
 use Rattle.listing_lines.specs.Laws.{appended_none, appended_more, length-appended}
@@ -12,19 +12,17 @@ module _ {x : Line} {i : ℕ} (x₀ : Line) (word : List ℕ) (e : x ≡ appende
   more : i < length word → followed x (get_or word i 0) ≡ appended x₀ (take (i + 1) word)
   more h = rw (e, add-one i, take-suc word i 0 h) (appended_more x₀ (take i word) (get_or word i 0))
 
-pub loop-i-init : goal.loop-i-init
-loop-i-init c = (search rules, sym (appended_none _))
+pub loop-byte-init : goal.loop-byte-init
+loop-byte-init c = sym (appended_none _)
 
 pub followed-longer-requires : goal.followed-longer-requires
 followed-longer-requires c =
-    omega (arith, long c.args.line c.args.word.now c.loop-i.invariant.1 c.loop-i.invariant.0, c.requires, c.loop-i-test.true)
+    omega (arith, long c.args.line c.args.word.now c.loop-byte.invariant c.loop-byte.auto.byte-index-end, c.requires, c.loop-byte-test.true)
 
-pub loop-i-preserved : goal.loop-i-preserved
-loop-i-preserved c =
-    let next : c.followed-longer.result ≡ followed c.loop-i.longer (get_or c.args.word.now c.loop-i.i 0) = c.followed-longer.ensures in
-    (omega arith, next ∙ more c.args.line c.args.word.now c.loop-i.invariant.1 c.loop-i-test.true)
+pub loop-byte-preserved : goal.loop-byte-preserved
+loop-byte-preserved c = c.followed-longer.ensures ∙ more c.args.line c.args.word.now c.loop-byte.invariant c.loop-byte-test.true
 
 pub returns : goal.returns
 returns c =
-    let whole = c.loop-i.invariant.1 ∙ ap (appended c.args.line) (take_all c.loop-i.i c.args.word.now c.loop-i-test.false) in
+    let whole = c.loop-byte.invariant ∙ ap (appended c.args.line) (take_all c.loop-byte.byte-index c.args.word.now c.loop-byte-test.false) in
     (whole, ap (λ x. x.length) whole ∙ length-appended c.args.line c.args.word.now)

@@ -1,10 +1,7 @@
--- `listing_lines::with_word`: after i turns the line has the first i bytes of the word more.
-use Rattle.std.proofs.Common.{◌≡◌, ◌-◌, ◌≤◌, length, take}
+-- `listing_lines::with_word`: after i bytes of the word the line has these more.
+use Rattle.std.proofs.Common.{◌≡◌, take}
 use Rattle.listing_lines.specs.Appended.{appended}
 use Rattle.listing_lines.proofs.with_word.Given as goal
 
-abbrev pub invariant-loop-i : goal.invariant-loop-i
-invariant-loop-i l = (l.i ≤ length l.word) × (l.longer ≡ appended l.initial.longer (take l.i l.word))
-
-abbrev pub decreases-loop-i : goal.decreases-loop-i
-decreases-loop-i l = length l.word - l.i
+abbrev pub invariant-loop-byte : goal.invariant-loop-byte
+invariant-loop-byte l = l.longer ≡ appended l.initial.longer (take l.byte-index l.word)

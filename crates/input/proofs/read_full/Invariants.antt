@@ -1,6 +1,6 @@
--- `check_print::read_full`: what has been read lies in the text.
+-- `input::read_full`: what has been read lies in the text.
 use Rattle.std.proofs.Common.{◌≤◌, length}
-use Rattle.check_print.proofs.read_full.Given as goal
+use Rattle.input.proofs.read_full.Given as goal
 
 abbrev pub invariant-loop : goal.invariant-loop
 invariant-loop g l = l.done ≤ length l.text
