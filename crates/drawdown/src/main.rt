@@ -3,6 +3,7 @@
 #![tactic(auto)]
 
 use input::read_full;
+use limits::TEXT_LIMIT;
 use std::io::{self, ErrorKind, Read};
 
 // Says what could not be done. Where standard error cannot be written either, nothing is left to say it on.
@@ -17,8 +18,7 @@ fn fail(rt: &impl Eprint, what: &str, reason: &io::Error) {
 
 // Whether the input has ended after what was read of it: one more read gives nothing.
 fn input_ended(rt: &impl Eprint, input: &mut impl Read) -> bool {
-    let mut more = [0u8; 1];
-    match read_full(input, &mut more) {
+    match read_full(input, &mut [0]) {
         Ok(0) => true,
         Ok(_) => {
             say(rt, "standard input could not be read in one go");
@@ -33,24 +33,24 @@ fn input_ended(rt: &impl Eprint, input: &mut impl Read) -> bool {
 
 // Prints the listing of a text. A reader that has gone away is no failure.
 fn answer(rt: &(impl Print + Eprint), text: &[u8]) {
-    if let Err(error) = listing_print::print_listing(&mut io::writer(rt), text) {
-        if error.kind() != ErrorKind::BrokenPipe {
-            fail(
-                rt,
-                "the listing is not whole: standard output cannot be written",
-                &error,
-            );
-        }
+    if let Err(error) = listing_print::print_listing(&mut io::writer(rt), text)
+        && error.kind() != ErrorKind::BrokenPipe
+    {
+        fail(
+            rt,
+            "the listing is not whole: standard output cannot be written",
+            &error,
+        );
     }
 }
 
 fn main(rt: HostRuntime) {
     // one byte more than a text may have, so that this many show that it is too long
-    let mut text = [0u8; 65537];
+    let mut text = [0u8; TEXT_LIMIT + 1];
     let mut input = rt.reader();
     match read_full(&mut input, &mut text) {
         Ok(got) => {
-            if got == 65537 || input_ended(&rt, &mut input) {
+            if got == text.len() || input_ended(&rt, &mut input) {
                 answer(&rt, &text[..got]);
             }
         }

@@ -1,9 +1,0 @@
--- `check_hash::with`: eight turns.
-use Rattle.std.proofs.Common.{◌-◌, ◌≤◌}
-use Rattle.check_hash.proofs.with.Given as goal
-
-abbrev pub invariant-loop-k : goal.invariant-loop-k
-invariant-loop-k l = l.k ≤ 8
-
-abbrev pub decreases-loop-k : goal.decreases-loop-k
-decreases-loop-k l = 8 - l.k
