@@ -2,7 +2,7 @@
 use mathlib.Core.Path.{◌≡◌, refl}
 use mathlib.Core.Bool.{Bool, true, false, cond}
 use Prim.Native.Nat.{ℕ, zero, suc}
-use Rattle.refusals.specs.Refusals.{outcome_of}
+use Rattle.refusals.specs.Refusals.{refusal, given}
 use Rattle.record.specs.declared.Record.{Record}
 use Rattle.record.specs.Record.{answer_of, repeated_of}
 use Rattle.validity.specs.Validity.{valid}
@@ -22,7 +22,7 @@ module _ (r : Record) (rate dt : ℕ) where
   first_step = by_number (step_refusal r rate dt) r _
 
   pub one_step : answered (repeat_of r rate dt 1) ≡ step_of r rate dt
-  unfolding repeat_of repeated_of outcome_of
+  unfolding repeat_of repeated_of refusal given
   one_step = by_test (valid r) refl
     where
       by_test : (t : Bool) → valid r ≡ t → answered (cond t (steps_of rate dt 0 1 r) (repeated_of 14 r 0)) ≡ step_of r rate dt

@@ -1,13 +1,13 @@
 -- The answer of many equal steps: laws only, nothing to believe.
 --     repeat_14, repeat_none, repeat_refused, repeat_back   the answer by what was judged and run, as it is read back
 --     ran_ready       where 14, 7 and 8 let the first step pass, they would let one more pass after the last
-use Rattle.std.specs.Prelude.{◌≡◌, true, false, ℤ}
+use Rattle.std.specs.Prelude.{◌≡◌, true, false, ℤ, Ok, Err}
 use Rattle.std.proofs.Math.Path.{sym, ap}
 use Rattle.std.proofs.Common.{◌∙◌, arith}
 use Prim.Native.Nat.{ℕ, zero, suc, ◌<◌}
-use Rattle.refusals.specs.Refusals.{outcome_of}
+use Rattle.refusals.specs.declared.Refusal.{Refusal}
+use Rattle.refusals.specs.Refusals.{refusal, given, outcome_of}
 use Rattle.record.specs.declared.Record.{Record}
-use Rattle.record.specs.declared.Outcome.{Outcome}
 use Rattle.record.specs.Record.{repeated_of}
 use Rattle.record.specs.Laws.{refusal_of}
 use Rattle.validity.specs.Validity.{valid}
@@ -23,21 +23,21 @@ use Rattle.step.specs.Repeat.{repeat_of}
 module _ (rate dt : ℕ) (r : Record) where
   -- ---- the answer of many steps
 
-  pub repeat_14 : (n : ℕ) → valid r ≡ false → record { outcome = Outcome.Refused 14; «record» = r; taken = 0 } ≡ repeat_of r rate dt n
-  unfolding repeat_of repeated_of outcome_of
+  pub repeat_14 : (n : ℕ) → valid r ≡ false → record { outcome = Err Refusal.Record; «record» = r; taken = 0 } ≡ repeat_of r rate dt n
+  unfolding repeat_of repeated_of refusal given
   repeat_14 n e = rw e
 
   repeat_valid : (n : ℕ) → valid r ≡ true → steps_of rate dt 0 n r ≡ repeat_of r rate dt n
   unfolding repeat_of
   repeat_valid n e = rw e
 
-  pub repeat_none : (n : ℕ) → n ≡ 0 → valid r ≡ true → record { outcome = Outcome.Taken; «record» = r; taken = 0 } ≡ repeat_of r rate dt n
-  unfolding steps_of repeated_of outcome_of
+  pub repeat_none : (n : ℕ) → n ≡ 0 → valid r ≡ true → record { outcome = Ok tt; «record» = r; taken = 0 } ≡ repeat_of r rate dt n
+  unfolding steps_of repeated_of given
   repeat_none n e ok = rw e (repeat_valid 0 ok)
 
   -- the first step is refused
-  pub repeat_refused : (n : ℕ) → 0 < n → valid r ≡ true → (k : ℕ) → record { outcome = Outcome.Refused k; «record» = r } ≡ step_of r rate dt
-      → record { outcome = Outcome.Refused k; «record» = r; taken = 0 } ≡ repeat_of r rate dt n
+  pub repeat_refused : (n : ℕ) → 0 < n → valid r ≡ true → (k : Refusal) → record { outcome = Err k; «record» = r } ≡ step_of r rate dt
+      → record { outcome = Err k; «record» = r; taken = 0 } ≡ repeat_of r rate dt n
   unfolding steps_of repeated_of
   repeat_refused zero h ok k e = absurd (omega arith)
   repeat_refused (suc n) h ok k e =
@@ -45,7 +45,7 @@ module _ (rate dt : ℕ) (r : Record) where
       ∙ sym (onward-refused 0 r (steps_of rate dt 1 n (step_of r rate dt).«record») (step_refusal r rate dt) (refusal_of _ k number_is).1)
       ∙ repeat_valid (suc n) ok
     where
-      number_is : outcome_of (step_refusal r rate dt) ≡ Outcome.Refused k
+      number_is : outcome_of (step_refusal r rate dt) ≡ Err k
       number_is = sym (step_outcome r rate dt) ∙ sym (ap (λ x. x.outcome) e)
 
   module _ (y : Ready r rate dt) (n : ℕ) {v : Ran} (e : v ≡ ran_of (steps_of rate dt 0 n r)) where

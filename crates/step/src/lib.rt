@@ -5,10 +5,11 @@ ghost use Rattle.std.specs.Prelude.{◌≡◌};
 ghost use Rattle.step_rules.specs.Step.{step_of};
 ghost use Rattle.step.specs.Repeat.{repeat_of};
 
-use record::{Answer, Outcome, Record, Repeated};
+use record::{Answer, Record, Repeated};
+use refusals::Refusal;
 
 // The record handed in: no step is taken.
-fn unmoved(outcome: Outcome, record: Record) -> Repeated
+fn unmoved(outcome: Result<(), Refusal>, record: Record) -> Repeated
     ensures { result ≡ (record { outcome = outcome; «record» = «record»; taken = 0 }) }
 {
     Repeated {
@@ -24,16 +25,16 @@ pub fn repeat(record: Record, rate: u64, dt: u64, steps: u64) -> Repeated
     ensures { result ≡ repeat_of «record» rate dt steps }
 {
     if !validity::valid(record) {
-        return unmoved(Outcome::Refused(14), record);
+        return unmoved(Err(Refusal::Record), record);
     }
     if steps == 0 {
-        return unmoved(Outcome::Taken, record);
+        return unmoved(Ok(()), record);
     }
     if step_conditions::rate_or_length_out(rate, dt) {
-        return unmoved(Outcome::Refused(7), record);
+        return unmoved(Err(Refusal::RateOrLength), record);
     }
     if !step_stability::stable(record, dt) {
-        return unmoved(Outcome::Refused(8), record);
+        return unmoved(Err(Refusal::Unstable), record);
     }
     let ran = step_run::run(record, rate, dt, steps);
     let outcome = ran.outcome;
@@ -56,7 +57,7 @@ pub fn repeat(record: Record, rate: u64, dt: u64, steps: u64) -> Repeated
     }
 }
 
-// A step of dt µs at a rate in ml/s. A refused step gives its number and the record handed in.
+// A step of dt µs at a rate in ml/s. A refused step gives its refusal and the record handed in.
 pub fn step(record: Record, rate: u64, dt: u64) -> Answer
     ensures { result ≡ step_of «record» rate dt }
 {

@@ -3,10 +3,11 @@
 --     well_after_back, inflow_after_back      and after it
 --     depth_within      D of the well after a step that is taken is at most 10^9
 --     totals_fit        the pumped total and the time after the step are words
---     halted_is         the course and the losses where a number halts the step; halted_9: where 9 does
+--     halted_is         the course and the losses where a refusal halts the step; halted_9: where 9 does
 --     taken             and where none does
 --     judged            the number of 10 and 11 is the one that halts the step, where 9 does not
 --     restored          the losses before the step, where the slots before the last layer's last column are given back
+use Rattle.std.specs.Prelude.{Ok, Err}
 use mathlib.Core.Path.{◌≡◌, refl, sym, ◌∙◌}
 use mathlib.Core.Bool.{true, false}
 use mathlib.Core.Logic.{inl, inr, ⊎_elim}
@@ -30,8 +31,9 @@ use Rattle.laws.specs.Refusal.First.{hit}
 use Rattle.laws.specs.Signed.{small_fits, abs_add, room_fits, room_sum}
 use Rattle.laws.specs.Lists.{larger, ifℤ, sumℤ, range, first}
 use Rattle.limits.specs.Limits.{rate_limit, length_limit, total_limit, drawdown_limit}
-use Rattle.refusals.specs.Refusals.{outcome_of}
-use Rattle.record.specs.declared.Outcome.TheVariants.{Taken}
+use Rattle.refusals.specs.declared.Refusal.{Refusal}
+use Rattle.refusals.specs.Refusals.{refusal, given, outcome_of}
+use Rattle.record.specs.Laws.{refusal_of}
 use Rattle.validity_drawdowns.specs.Drawdowns.{deeper}
 use Rattle.step_drawdowns.specs.Drawdowns.{depth_of}
 use Rattle.step_sweep.specs.declared.Terms.{Terms}
@@ -82,27 +84,27 @@ module _ {a : Lent} {p : ℕ} {c : Course} (q : Advancing a p c) where
 -- ---- the answers
 
 module _ (a : Lent) (p : ℕ) (c : Course) where
-  -- the course and the losses of a step refused with this number
-  abbrev Halted : ℕ → Type 0
-  Halted n = (◌≡◌ {A = Advanced} (record { outcome = outcome_of n; course = c }) (advanced_of a p c)) × (a.losses ≡ kept_of a p c)
+  -- the course and the losses of a step refused in this way
+  abbrev Halted : Refusal → Type 0
+  Halted k = (◌≡◌ {A = Advanced} (record { outcome = Err k; course = c }) (advanced_of a p c)) × (a.losses ≡ kept_of a p c)
 
-  pub halted_is : (n : ℕ) → 0 < n → n ≡ halts a p c → Halted n
+  pub halted_is : (n : ℕ) {k : Refusal} → outcome_of n ≡ Err k → n ≡ halts a p c → Halted k
   unfolding advanced_of kept_of course_after losses_kept
-  halted_is zero h e = absurd (omega arith)
-  halted_is (suc n) h e = (rw (← e) refl, rw (← e) refl)
+  halted_is zero h e = absurd ((refusal_of 0 _ h).1 refl)
+  halted_is (suc n) h e = (rw (← e, h) refl, rw (← e) refl)
 
-  pub halted_9 : totals_full c.pumped c.time a.rate a.dt ≡ true → Halted 9
-  unfolding halts
-  halted_9 e = halted_is 9 (omega arith) (first_is (hit e))
+  pub halted_9 : totals_full c.pumped c.time a.rate a.dt ≡ true → Halted Refusal.Totals
+  unfolding halts refusal given
+  halted_9 e = halted_is 9 refl (first_is (hit e))
 
   pub taken : 0 ≡ halts a p c
       → {well inflow mark : ℤ} {depth : ℕ} → well ≡ well_after a → inflow ≡ inflow_after a → pos depth ≡ depth_after a → mark ≡ larger c.mark (pos depth)
       → {ls : List ℤ} → ls ≡ losses_of a
       → (◌≡◌ {A = Advanced}
-      (record { outcome = Taken; course = record { well_loss = well; well_depth = depth; pumped = c.pumped + a.rate * a.dt; inflow = inflow; time = c.time + a.dt; mark = mark } })
+      (record { outcome = Ok tt; course = record { well_loss = well; well_depth = depth; pumped = c.pumped + a.rate * a.dt; inflow = inflow; time = c.time + a.dt; mark = mark } })
       (advanced_of a p c))
       × (ls ≡ kept_of a p c)
-  unfolding advanced_of kept_of course_after losses_kept outcome_of
+  unfolding advanced_of kept_of course_after losses_kept given
   taken e w i d m l = (rw (← e, w, i, m, ← d), rw (← e, l))
 
 -- where 9 lets the step pass, the number that halts it is the first of 10 and 11

@@ -1,7 +1,7 @@
 // One step of a run on lent arrays, where 14, 7 and 8 let it pass: 9 to 11 are judged, and a step that is taken moves the losses and the course.
 #![tactic(auto)]
 
-ghost use Rattle.std.specs.Prelude.{◌≡◌, ◌+◌, ◌*◌, ◌-◌, ◌≤◌, ◌<◌, pos, ◌≤ℤ◌, get_or};
+ghost use Rattle.std.specs.Prelude.{◌≡◌, ◌+◌, ◌*◌, ◌-◌, ◌≤◌, ◌<◌, pos, ◌≤ℤ◌, get_or, Err};
 ghost use Rattle.laws.specs.Fill.{fill};
 ghost use Rattle.laws.specs.Lists.{larger};
 ghost use Rattle.limits.specs.Limits.{drawdown_limit};
@@ -12,7 +12,7 @@ ghost use Rattle.step_sweep.specs.Worked.{lent, Scratch};
 ghost use Rattle.step_judged.specs.Course.{too_deep, Advancing, Advances};
 
 use limits::{CELL_PLACES, COLUMN_PLACES, LAYER_PLACES};
-use record::Outcome;
+use refusals::Refusal;
 use step_sweep::Terms;
 
 // Where a run has come to, beside the losses of its cells.
@@ -29,17 +29,16 @@ pub struct Course {
 // What became of one step, and the course after it; a refused step leaves the course as it was.
 #[derive(Clone, Copy)]
 pub struct Advanced {
-    pub outcome: Outcome,
+    pub outcome: Result<(), Refusal>,
     pub course: Course,
 }
 
-// A step refused with this number: the course as it was before it.
-fn halted(number: u64, course: Course) -> Advanced
-    requires { 0 < number }
-    ensures { result ≡ (record { outcome = outcome_of number; course = course }) }
+// A refused step: the course as it was before it.
+fn halted(refusal: Refusal, course: Course) -> Advanced
+    ensures { result ≡ (record { outcome = Err refusal; course = course }) }
 {
     Advanced {
-        outcome: Outcome::Refused(number),
+        outcome: Err(refusal),
         course,
     }
 }
@@ -62,24 +61,24 @@ fn restore(
     }
 }
 
-// The number of the first of 10 and 11 that forbids the step, 0 if none does: `well_loss` and `losses` are those after it.
+// The first of 10 and 11 that forbids the step, where one does: `well_loss` and `losses` are those after it.
 fn too_deep<'a>(
     terms: Terms,
     well_loss: i64,
     storages: &'a [u64; CELL_PLACES],
     losses: &'a [i64; CELL_PLACES],
-) -> u64
+) -> Result<(), Refusal>
     requires intake_bound { (1000 * terms.intake ≤ drawdown_limit) × (0 < terms.well_storage) × (pos 0 ≤ℤ well_loss) }
     requires columns_bound { (terms.columns ≤ 50) × (1000 * terms.thickness ≤ drawdown_limit) × Filled (terms.columns - 1) storages.now losses.now }
-    ensures { result ≡ too_deep terms well_loss storages.now losses.now }
+    ensures { result ≡ outcome_of (too_deep terms well_loss storages.now losses.now) }
 {
     if step_conditions::well_too_deep(terms.intake, terms.well_storage, well_loss) {
-        return 10;
+        return Err(Refusal::PastIntake);
     }
     if step_conditions::table_too_deep(terms.columns, terms.thickness, storages, losses) {
-        return 11;
+        return Err(Refusal::PastBottom);
     }
-    0
+    Ok(())
 }
 
 // The mark after a step that leaves the well at this D, both µm.
@@ -113,7 +112,7 @@ pub fn advance<'a>(
     ensures { Advances (lent terms course.well_loss course.inflow areas.now screen.now horizontal.now vertical.now storages.now losses.old) terms.intake course result losses.new depths.new conductances.new down.new before.new }
 {
     if step_conditions::totals_pass(course.pumped, course.time, terms.rate, terms.dt) {
-        return halted(9, course);
+        return halted(Refusal::Totals, course);
     }
     let well_loss = course.well_loss;
     let inflow = course.inflow;
@@ -137,10 +136,9 @@ pub fn advance<'a>(
     );
     let well_after = swept.well_loss;
     let inflow_after = swept.inflow;
-    let number = too_deep(terms, well_after, storages, losses);
-    if number != 0 {
+    if let Err(refusal) = too_deep(terms, well_after, storages, losses) {
         restore(before, terms.layers, terms.columns, losses);
-        return halted(number, course);
+        return halted(refusal, course);
     }
     // 10 has let the step pass, so the well's D is within its bound
     let well_depth = step_drawdowns::drawdown_by(
@@ -152,7 +150,7 @@ pub fn advance<'a>(
     let pumped = course.pumped + terms.rate * terms.dt;
     let time = course.time + terms.dt;
     Advanced {
-        outcome: Outcome::Taken,
+        outcome: Ok(()),
         course: Course {
             well_loss: well_after,
             well_depth,

@@ -6,6 +6,7 @@
 --     well_back, inflow_back, mark_back     what the machine reads back of the course
 --     stepped           what `step_judged::advance` gives is the step's answer; course_kept: with the well's D in its course
 --     scratch_zeros     arrays of zeros, and C itself, may be worked in
+use Rattle.std.specs.Prelude.{Err}
 use mathlib.Core.Path.{◌≡◌, refl, sym, ap, ◌∙◌}
 use mathlib.Core.Bool.{true, false, not}
 use mathlib.Core.List.{List}
@@ -25,7 +26,8 @@ use Rattle.laws.specs.Refusal.{first_is}
 use Rattle.laws.specs.Refusal.First.{hit, skip}
 use Rattle.laws.specs.Sums.{or_no}
 use Rattle.limits.specs.Limits.{rate_limit, length_limit}
-use Rattle.refusals.specs.Refusals.{outcome_of}
+use Rattle.refusals.specs.declared.Refusal.{Refusal}
+use Rattle.refusals.specs.Refusals.{refusal, given, outcome_of}
 use Rattle.network.specs.Network.{Network, State, loss_at, storage_at, drawdown, losses_after, moved, length_out, rate_or_length_out, stable, unstable, totals_pass, well_too_deep, table_too_deep, step_tests}
 use Rattle.network.specs.Grid.{place, one_per_place, network_of}
 use Rattle.network.proofs.laws.Bounds.{depth_natural, losses_after_lem}
@@ -34,8 +36,8 @@ use Rattle.site.specs.Laws.{counts_hold_lem, numbers_hold_lem}
 use Rattle.site.specs.Limited.{Counts}
 use Rattle.record.specs.declared.Record.{Record}
 use Rattle.record.specs.declared.Answer.{Answer}
-use Rattle.record.specs.declared.Outcome.TheVariants.{Refused}
 use Rattle.record.specs.Record.{slot, grid_of, state_of, answer_of}
+use Rattle.record.specs.Laws.{refusal_of}
 use Rattle.validity.specs.Validity.{valid}
 use Rattle.validity.specs.Laws.{Valid, valid_record, valid_proper, mark_natural, mark_most, mark_back as kept-mark}
 use Rattle.validity_drawdowns.specs.Drawdowns.{deeper}
@@ -63,8 +65,8 @@ within_limits rate dt e =
     (ltb-false rate_limit rate tests.0, ltb-false length_limit dt (or_no (eqb dt 0) (ltb length_limit dt) tests.1).1)
 
 -- the answer of a refused step
-abbrev pub refused : ℕ → Record → Answer
-refused n r = record { outcome = Refused n; «record» = r }
+abbrev pub refused : Refusal → Record → Answer
+refused k r = record { outcome = Err k; «record» = r }
 
 module _ (r : Record) (rate dt : ℕ) where
   abbrev N : Network
@@ -76,18 +78,18 @@ module _ (r : Record) (rate dt : ℕ) where
   abbrev a : Lent
   a = lent_of r rate dt
 
-  refused_is : (n : ℕ) → 0 < n → n ≡ step_refusal r rate dt → refused n r ≡ step_of r rate dt
-  unfolding step_of answer_of outcome_of
-  refused_is zero h e = absurd (omega arith)
-  refused_is (suc n) h e = rw (← e)
+  refused_is : (n : ℕ) {k : Refusal} → outcome_of n ≡ Err k → n ≡ step_refusal r rate dt → refused k r ≡ step_of r rate dt
+  unfolding step_of answer_of
+  refused_is zero h e = absurd ((refusal_of 0 _ h).1 refl)
+  refused_is (suc n) h e = rw (← e, h) refl
 
-  pub refused_14 : valid r ≡ false → refused 14 r ≡ step_of r rate dt
-  unfolding step_refusal
-  refused_14 e = refused_is 14 (omega arith) (first_is (hit (ap not e)))
+  pub refused_14 : valid r ≡ false → refused Refusal.Record r ≡ step_of r rate dt
+  unfolding step_refusal refusal given
+  refused_14 e = refused_is 14 refl (first_is (hit (ap not e)))
 
-  pub refused_7 : valid r ≡ true → rate_or_length_out rate dt ≡ true → refused 7 r ≡ step_of r rate dt
-  unfolding step_refusal step_tests
-  refused_7 ok e = refused_is 7 (omega arith) (first_is (skip (ap not ok) (hit e)))
+  pub refused_7 : valid r ≡ true → rate_or_length_out rate dt ≡ true → refused Refusal.RateOrLength r ≡ step_of r rate dt
+  unfolding step_refusal step_tests refusal given
+  refused_7 ok e = refused_is 7 refl (first_is (skip (ap not ok) (hit e)))
 
   module _ (ok : valid r ≡ true) where
     known : Valid r
@@ -99,9 +101,9 @@ module _ (r : Record) (rate dt : ℕ) where
     pub few_layers : r.site.layers ≤ 20
     few_layers = counted.layers_most
 
-    pub refused_8 : rate_or_length_out rate dt ≡ false → stable N dt ≡ false → refused 8 r ≡ step_of r rate dt
-    unfolding step_refusal step_tests unstable
-    refused_8 sized e = refused_is 8 (omega arith) (first_is (skip (ap not ok) (skip sized (hit (ap not e)))))
+    pub refused_8 : rate_or_length_out rate dt ≡ false → stable N dt ≡ false → refused Refusal.Unstable r ≡ step_of r rate dt
+    unfolding step_refusal step_tests unstable refusal given
+    refused_8 sized e = refused_is 8 refl (first_is (skip (ap not ok) (skip sized (hit (ap not e)))))
 
   module _ (y : Ready r rate dt) where
     v : Valid r
@@ -193,7 +195,7 @@ module _ (r : Record) (rate dt : ℕ) where
     by_number : (n : ℕ) → ◌≡◌ {A = Answer}
         (record { outcome = (course_after a r.site.intake (course_of r) n).outcome; «record» = with_course r (course_after a r.site.intake (course_of r) n).course (losses_kept a r.site.intake (course_of r) n) })
         (answer_of n r (with_state r (moved N s rate dt)))
-    unfolding course_after losses_kept answer_of outcome_of with_state moved state_of
+    unfolding course_after losses_kept answer_of with_state moved state_of
     by_number zero = rw (worked_losses r v rate dt, depth_is, worked_well r v rate dt, worked_inflow r v rate dt)
     by_number (suc n) = refl
 

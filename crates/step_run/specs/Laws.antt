@@ -4,18 +4,18 @@
 --     steps_course    only the course and the losses of a record change
 --     onward-refused  what follows a refusal
 --     ran_none, ran_taken, ran_refused   the steps of a run, one after the other
-use Rattle.std.specs.Prelude.{◌≡◌, List, ℤ}
+use Rattle.std.specs.Prelude.{◌≡◌, List, ℤ, Ok, Err}
 use Rattle.std.proofs.Math.Path.{refl, ap}
 use Rattle.std.proofs.Common.{sym, subst, ◌∙◌}
 use Rattle.std.proofs.Math.Bool.{true}
 use Prim.Native.Nat.{ℕ, zero, suc, ◌+◌, ◌-◌, ◌<◌}
 use native.Mathlib.Omega.{arith}
-use Rattle.refusals.specs.Refusals.{outcome_of}
+use Rattle.refusals.specs.declared.Refusal.{Refusal}
+use Rattle.refusals.specs.Refusals.{given, outcome_of}
 use Rattle.network.specs.Network.{moved, stable}
 use Rattle.network.specs.Grid.{network_of}
 use Rattle.record.specs.declared.Record.{Record}
 use Rattle.record.specs.declared.Answer.{Answer}
-use Rattle.record.specs.declared.Outcome.{Outcome}
 use Rattle.record.specs.Record.{grid_of, state_of, answer_of, repeated_of}
 use Rattle.record.specs.Laws.{refusal_of, taken_of}
 use Rattle.validity.specs.Validity.{valid}
@@ -91,8 +91,8 @@ module _ (rate dt : ℕ) where
 
     -- ---- the steps of a run, `taken` of them before
 
-    pub ran_none : (taken n : ℕ) → n ≡ 0 → ran_of (steps_of rate dt taken n r) ≡ record { outcome = Outcome.Taken; course = course_of r; losses = r.losses; taken = taken }
-    unfolding steps_of ran_of repeated_of outcome_of
+    pub ran_none : (taken n : ℕ) → n ≡ 0 → ran_of (steps_of rate dt taken n r) ≡ record { outcome = Ok tt; course = course_of r; losses = r.losses; taken = taken }
+    unfolding steps_of ran_of repeated_of given
     ran_none taken n e = rw e
 
     -- a step of which the outcome, the course and the losses are known
@@ -104,7 +104,7 @@ module _ (rate dt : ℕ) where
       number_is = sym (step_outcome r rate dt) ∙ sym (ap (λ x. x.outcome) e)
 
       module _ (taken n : ℕ) (h : 0 < n) where
-        pub ran_taken : v.outcome ≡ Outcome.Taken → steps_of rate dt (taken + 1) (n - 1) (with_course r v.course ls) ≡ steps_of rate dt taken n r
+        pub ran_taken : v.outcome ≡ Ok tt → steps_of rate dt (taken + 1) (n - 1) (with_course r v.course ls) ≡ steps_of rate dt taken n r
         unfolding steps_of
         ran_taken t = by_count n h
           where
@@ -115,7 +115,7 @@ module _ (rate dt : ℕ) where
                 let j : taken + 1 ≡ suc taken = omega arith in
                 rw (k, j, ap (λ x. x.«record») e) (sym (onward_taken taken r (steps_of rate dt (suc taken) n (step_of r rate dt).«record») (step_refusal r rate dt) (taken_of _ (number_is ∙ t))))
 
-        pub ran_refused : course_of (with_course r v.course ls) ≡ v.course → (k : ℕ) → v.outcome ≡ Outcome.Refused k → record { outcome = v.outcome; course = v.course; losses = ls; taken = taken } ≡ ran_of (steps_of rate dt taken n r)
+        pub ran_refused : course_of (with_course r v.course ls) ≡ v.course → (k : Refusal) → v.outcome ≡ Err k → record { outcome = v.outcome; course = v.course; losses = ls; taken = taken } ≡ ran_of (steps_of rate dt taken n r)
         unfolding steps_of ran_of repeated_of
         ran_refused c k t = by_count n h
           where

@@ -10,7 +10,8 @@ ghost use Rattle.step_rules.specs.Steps.{steps_of};
 ghost use Rattle.step_run.specs.Ran.{ran_of};
 
 use limits::{CELL_PLACES, COLUMN_PLACES};
-use record::{Outcome, Record};
+use record::Record;
+use refusals::Refusal;
 use step_judged::Course;
 use step_sweep::Terms;
 
@@ -20,7 +21,7 @@ const PAYS: u64 = 8;
 // What became of several steps, where they came to, and how many were taken.
 #[derive(Clone, Copy)]
 pub struct Ran {
-    pub outcome: Outcome,
+    pub outcome: Result<(), Refusal>,
     pub course: Course,
     pub losses: [i64; CELL_PLACES], // V of the cells, nl
     pub taken: u64,
@@ -115,7 +116,7 @@ pub fn run(record: Record, rate: u64, dt: u64, steps: u64) -> Ran
         );
         let outcome = advanced.outcome;
         course = advanced.course;
-        if let Outcome::Refused(_) = outcome {
+        if let Err(_) = outcome {
             return Ran {
                 outcome,
                 course,
@@ -126,7 +127,7 @@ pub fn run(record: Record, rate: u64, dt: u64, steps: u64) -> Ran
         taken += 1;
     }
     Ran {
-        outcome: Outcome::Taken,
+        outcome: Ok(()),
         course,
         losses,
         taken,

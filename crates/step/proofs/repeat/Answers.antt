@@ -1,5 +1,6 @@
 -- At each return what was judged and run gives the definition's answer.
 use Rattle.std.proofs.Common.{◌≡◌, sym, ◌∙◌, true, false, arith}
+use Rattle.refusals.specs.declared.Refusal.{Refusal}
 use Rattle.network.specs.Network.{rate_or_length_out}
 use Rattle.validity.specs.Validity.{valid}
 use Rattle.step_rules.proofs.Laws.{refused_7, refused_8, well_back, inflow_back, mark_back}
@@ -18,7 +19,7 @@ pub returns-then-rate_or_length_out : goal.returns-then-rate_or_length_out
 returns-then-rate_or_length_out c =
     let passed : valid c.args.«record» ≡ true = sym c.valid.ensures ∙ c.if-not-valid.false in
     c.unmoved-then-rate_or_length_out.ensures
-    ∙ repeat_refused c.args.rate c.args.dt c.args.«record» c.args.steps (omega (arith, c.if-steps-eq0.false)) passed 7
+    ∙ repeat_refused c.args.rate c.args.dt c.args.«record» c.args.steps (omega (arith, c.if-steps-eq0.false)) passed Refusal.RateOrLength
     (refused_7 _ _ _ passed (sym c.rate_or_length_out.ensures ∙ c.if-rate_or_length_out.true))
 
 pub returns-then-not-stable : goal.returns-then-not-stable
@@ -26,7 +27,7 @@ returns-then-not-stable c =
     let passed : valid c.args.«record» ≡ true = sym c.valid.ensures ∙ c.if-not-valid.false in
     let sized : rate_or_length_out c.args.rate c.args.dt ≡ false = sym c.rate_or_length_out.ensures ∙ c.if-rate_or_length_out.false in
     c.unmoved-then-not-stable.ensures
-    ∙ repeat_refused c.args.rate c.args.dt c.args.«record» c.args.steps (omega (arith, c.if-steps-eq0.false)) passed 8
+    ∙ repeat_refused c.args.rate c.args.dt c.args.«record» c.args.steps (omega (arith, c.if-steps-eq0.false)) passed Refusal.Unstable
     (refused_8 _ _ _ passed sized (sym c.stable.ensures ∙ c.if-not-stable.true))
 
 pub returns : goal.returns

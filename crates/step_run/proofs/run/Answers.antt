@@ -1,6 +1,6 @@
 -- A step more leaves what all the steps come to as it is; a refusal ends them there.
+use Rattle.std.specs.Prelude.{Ok}
 use Rattle.std.proofs.Common.{◌≡◌, refl, sym, ap, ◌∙◌, ◌+◌, ◌-◌, arith}
-use Rattle.record.specs.declared.Outcome.{Outcome}
 use Rattle.validity.specs.Laws.{valid_record, valid_limits}
 use Rattle.step_rules.specs.Ready.{with_course}
 use Rattle.step_rules.proofs.Laws.{few_layers, asks_terms, stepped, course_kept, scratch_zeros}
@@ -27,13 +27,13 @@ pub advance-advanced-requires-clause-advancing : goal.advance-advanced-requires-
 advance-advanced-requires-clause-advancing c =
     asks_terms (with_course c.args.«record» c.loop-taken.course c.loop-taken.losses) c.args.rate c.args.dt c.loop-taken.invariant.1 c.terms_of-terms.ensures.value c.areas_of-areas.ensures c.loop-taken.invariant.2
 
-pub returns-in-Refused : goal.returns-in-Refused
-returns-in-Refused c =
+pub returns-in-Err : goal.returns-in-Err
+returns-in-Err c =
     let was = with_course c.args.«record» c.loop-taken.course c.loop-taken.losses in
     let i = c.loop-taken.invariant in
     let moved = stepped was c.args.rate c.args.dt i.1 c.terms_of-terms.ensures.value c.areas_of-areas.ensures i.2 c.advance-advanced.ensures in
     let kept = course_kept was c.args.rate c.args.dt i.1 c.terms_of-terms.ensures.value c.areas_of-areas.ensures i.2 c.advance-advanced.ensures in
-    ran_refused c.args.rate c.args.dt was c.advance-advanced.result moved c.loop-taken.taken (c.args.steps - c.loop-taken.taken) (omega (arith, c.loop-taken-test.true)) kept _ c.in-Refused.is
+    ran_refused c.args.rate c.args.dt was c.advance-advanced.result moved c.loop-taken.taken (c.args.steps - c.loop-taken.taken) (omega (arith, c.loop-taken-test.true)) kept _ c.in-Err.is
     ∙ ap ran_of i.3
 
 pub loop-taken-preserved : goal.loop-taken-preserved
@@ -52,6 +52,6 @@ loop-taken-preserved c =
 pub returns : goal.returns
 returns c =
     let i = c.loop-taken.invariant in
-    ap (λ x. record { outcome = Outcome.Taken; course = x; losses = c.loop-taken.losses; taken = c.loop-taken.taken }) (sym i.2)
+    ap (λ x. record { outcome = Ok tt; course = x; losses = c.loop-taken.losses; taken = c.loop-taken.taken }) (sym i.2)
     ∙ sym (ran_none c.args.rate c.args.dt (with_course c.args.«record» c.loop-taken.course c.loop-taken.losses) c.loop-taken.taken (c.args.steps - c.loop-taken.taken) (omega (arith, c.loop-taken-test.false)))
     ∙ ap ran_of i.3
