@@ -1,9 +1,5 @@
 -- Whole numbers made floats, and the floats that the code writes as literals.
-use mathlib.Core.Path.{◌≡◌, refl}
-use mathlib.Core.Bool.{true, false}
-use Prim.Native.Nat.{ℕ, zero, suc, ◌/◌, ◌≤◌, ◌^◌}
-use native.Mathlib.Omega.{arith}
-use lib.IntN.{ℤ, pos, negsuc, nat_abs}
+use Rattle.std.proofs.Common.{◌≡◌, refl, true, false, ℕ, zero, suc, ◌/◌, ◌≤◌, ◌^◌, arith, ℤ, pos, negsuc, nat_abs}
 use lib.Ieee.{binary64, of_bits, of_int, div}
 use lib.Signed.{quot_z}
 use Rattle.laws.specs.Signed.{abs_neg}

@@ -1,19 +1,13 @@
 -- A screened layer's limits, and when the pipe loss is the same: laws only, nothing to believe.
 --     layer_small, thin, ..     what the limits of 3 say of a screened layer's numbers and of the well's
 --     pipe_loss_same            inflows that agree at every screened layer give the same pipe loss
-use Rattle.std.specs.Prelude.{◌≡◌, Bool, cond, ◌&&◌, ◌∷◌, leb, Float, get_or}
-use Rattle.std.proofs.Math.Path.{refl, ap}
-use Rattle.std.proofs.Common.{◌∙◌, arith}
-use Rattle.std.proofs.Math.Bool.{true, false}
-use Prim.Native.Nat.{ℕ, zero, suc, ◌^◌, ◌≤◌, ◌<◌}
+use Rattle.std.proofs.Common.{◌≡◌, Bool, cond, ◌&&◌, ◌∷◌, leb, Float, get_or, Option, Some, None, refl, ap, ◌∙◌, arith, true, false, ℕ, zero, suc, ◌^◌, ◌≤◌, ◌<◌}
 use Rattle.laws.specs.All.{and_right}
 use Rattle.site.specs.declared.Site.{Site}
 use Rattle.site.specs.Site.{is_screened}
 use Rattle.site.specs.Laws.{counts_hold_lem, numbers_hold_lem}
 use Rattle.site.specs.Limited.{Counts, Numbers}
 use Rattle.hydraulics.specs.Hydraulics.{◌⊕◌, velocity}
-use Rattle.pipe.specs.declared.Upward.{Upward}
-use Rattle.pipe.specs.declared.Upward.TheVariants.{Intake, Layer}
 use Rattle.pipe.specs.Pipe.{screened_up_to, added_to, added, velocity_at, upward_from, velocity_above, pipe_loss_at}
 use Rattle.pipe.specs.Asked.{Screened}
 
@@ -74,10 +68,10 @@ module _ (s : Site) (e f : ℕ → Float) (same : (k : ℕ) → k < s.layers →
   unfolding velocity_at
   velocity_same i = ap (λ x. velocity x s.well_radius) (added_same e f (is_screened s.screened) i s.layers same)
 
-  above_same : (i : ℕ) (u : Upward) → velocity_above s e i u ≡ velocity_above s f i u
+  above_same : (i : ℕ) (u : Option ℕ) → velocity_above s e i u ≡ velocity_above s f i u
   unfolding velocity_above
-  above_same i Intake = velocity_same i
-  above_same i (Layer k) = velocity_same k
+  above_same i None = velocity_same i
+  above_same i (Some k) = velocity_same k
 
   pub pipe_loss_same : (i : ℕ) → pipe_loss_at s e i ≡ pipe_loss_at s f i
   unfolding pipe_loss_at

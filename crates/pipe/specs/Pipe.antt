@@ -1,12 +1,10 @@
 -- The pipe of a well, layer by layer (document 01, 'Readings', last paragraph): the flow in it, its velocity, and its head loss up to the next
 -- screened layer. The formulas stand in hydraulics. e of a layer is its inflow.
 -- Lengths are mm, flows l/s, velocities m/s, head losses m.
-use Rattle.std.specs.Prelude.{Bool, cond, ◌&&◌, List, [], ◌∷◌, ℕ, zero, suc, ◌+◌, ◌*◌, leb, Float, ℤ, pos, ◌-ℤ◌, get_or}
+use Rattle.std.specs.Prelude.{Bool, cond, ◌&&◌, List, [], ◌∷◌, ℕ, zero, suc, ◌+◌, ◌*◌, leb, Float, ℤ, pos, ◌-ℤ◌, get_or, Option, Some, None}
 use Rattle.site.specs.declared.Site.{Site}
 use Rattle.site.specs.Site.{is_screened, layer_top}
 use Rattle.hydraulics.specs.Hydraulics.{◌⊕◌, float, millionths, velocity, pipe_loss}
-use Rattle.pipe.specs.declared.Upward.{Upward}
-use Rattle.pipe.specs.declared.Upward.TheVariants.{Intake, Layer}
 
 -- ---- the velocity in the pipe
 
@@ -35,20 +33,20 @@ velocity_at s e i = velocity (added e (screened_up_to (is_screened s.screened) i
 unfoldable pub twice_centre : List ℕ → ℕ → ℕ
 twice_centre thickness i = 2 * layer_top thickness i + get_or thickness i 0
 
--- where the pipe leads up from layer i: to the next screened layer above, or above the topmost one to the intake
-unfoldable pub upward_from : (ℕ → Bool) → ℕ → Upward
-upward_from screened zero = Intake
-upward_from screened (suc i) = cond (screened i) (Layer i) (upward_from screened i)
+-- where the pipe leads up from layer i: to the next screened layer above, or above the topmost one, None, to the intake
+unfoldable pub upward_from : (ℕ → Bool) → ℕ → Option ℕ
+upward_from screened zero = None
+upward_from screened (suc i) = cond (screened i) (Some i) (upward_from screened i)
 
 -- twice the distance from the centre of layer i to there
-unfoldable pub twice_distance : Site → ℕ → Upward → ℤ
-twice_distance s i Intake = pos (twice_centre s.thickness i) -ℤ pos (2 * s.intake)
-twice_distance s i (Layer k) = pos (twice_centre s.thickness i) -ℤ pos (twice_centre s.thickness k)
+unfoldable pub twice_distance : Site → ℕ → Option ℕ → ℤ
+twice_distance s i None = pos (twice_centre s.thickness i) -ℤ pos (2 * s.intake)
+twice_distance s i (Some k) = pos (twice_centre s.thickness i) -ℤ pos (twice_centre s.thickness k)
 
 -- v' there: v of that layer, and v itself above the topmost one
-unfoldable pub velocity_above : Site → (ℕ → Float) → ℕ → Upward → Float
-velocity_above s e i Intake = velocity_at s e i
-velocity_above s e i (Layer k) = velocity_at s e k
+unfoldable pub velocity_above : Site → (ℕ → Float) → ℕ → Option ℕ → Float
+velocity_above s e i None = velocity_at s e i
+velocity_above s e i (Some k) = velocity_at s e k
 
 unfoldable pub pipe_loss_at : Site → (ℕ → Float) → ℕ → Float
 pipe_loss_at s e i =
