@@ -9,6 +9,7 @@ use borrow.Author.Tests.{lt-leb, ltb-true}
 use lib.Dec.{leb, ltb}
 use lib.IntN.{pos}
 use lib.ListN.{replicate}
+use Rattle.std.specs.Prelude.{Some, None}
 use Rattle.laws.specs.All.{and_left, and_right}
 use Rattle.laws.specs.Number.{below_or_not}
 use Rattle.laws.specs.Ranges.{map-range_ext}
@@ -19,11 +20,10 @@ use Rattle.site.specs.declared.Site.{Site}
 use Rattle.site.specs.Laws.{counts_hold_lem}
 use Rattle.site.specs.Site.{is_screened, counts_hold}
 use Rattle.record.specs.declared.Record.{Record}
-use Rattle.record.specs.Record.{slots, layer_slots, is_cell, has_below, has_screen, grid_of, zero_record}
+use Rattle.record.specs.Record.{slots, layer_slots, is_cell, has_below, has_screen, grid_of}
 use Rattle.coefficient_slots.specs.Held.{slots_hold}
 use Rattle.coefficient_slots.specs.Laws.{Alike, coefficients_hold_lem, coefficients_ext, slots-coefficients}
 use Rattle.coefficient_slots.specs.Slots.{coefficients_hold, coefficients_unused}
-use Rattle.coefficients.specs.declared.Coefficients.{Coefficients}
 use Rattle.coefficient_cells.specs.Cells.{across_of, down_of, storage_of}
 use Rattle.coefficients.specs.Coefficients.{scenario_grid, start_record, coefficients_of}
 use Rattle.coefficients.specs.Laws.{slotted, slotted_unused, screen_at_lem, across_at, down_at, storage_at_lem}
@@ -107,38 +107,36 @@ module _ (s : Site) (counts : counts_hold s ≡ true) where
       (verticals : vertical ≡ slots (λ i j. slot_of (has_below s i j) (down_of s i j)))
       (stored : storages ≡ slots (λ i j. slot_of (is_cell s i j) (storage_of s i j)))
     where
-      pub judged : slots_hold s.layers s.columns s.screened screen horizontal vertical storages ≡ coefficients_hold (scenario_grid s)
+      abbrev start : ℕ → Record
+      start well = record {
+        site = s;
+        screen = screen;
+        horizontal = horizontal;
+        vertical = vertical;
+        storages = storages;
+        losses = replicate 1000 (pos 0);
+        well_storage = well;
+        well_loss = pos 0;
+        pumped = 0;
+        inflow = pos 0;
+        time = 0;
+        mark = pos 0;
+      }
+
+      judged : (well : ℕ) → well ≡ well_storage s.water_area → slots_hold (start well) ≡ coefficients_hold (scenario_grid s)
       unfolding slotted
-      judged =
-          rw (screens, horizontals, verticals, stored)
+      judged well w =
+          rw (screens, horizontals, verticals, stored, w)
           (slots-coefficients (slotted slot_of s) counts
           ∙ ap (coefficients_hold (grid_of (slotted slot_of s)) &&◌) none_left
           ∙ and-true (coefficients_hold (grid_of (slotted slot_of s)))
           ∙ coefficients_ext (grid_of (slotted slot_of s)) (scenario_grid s) alike)
 
       -- ---- the answer
-      pub taken : {well : ℕ} → coefficients_hold (scenario_grid s) ≡ true → well ≡ well_storage s.water_area
-          → ◌≡◌ {A = Coefficients}
-          (record {
-            held = true;
-            «record» = record {
-              site = s;
-              screen = screen;
-              horizontal = horizontal;
-              vertical = vertical;
-              storages = storages;
-              losses = replicate 1000 (pos 0);
-              well_storage = well;
-              well_loss = pos 0;
-              pumped = 0;
-              inflow = pos 0;
-              time = 0;
-              mark = pos 0;
-            };
-          })
-          (coefficients_of s)
+      pub taken : {well : ℕ} → well ≡ well_storage s.water_area → slots_hold (start well) ≡ true → Some (start well) ≡ coefficients_of s
       unfolding coefficients_of start_record scenario_grid layer_slots
-      taken e w =
+      taken {well} w held =
+          let e = sym (judged well w) ∙ held in
           let limits = coefficients_hold_lem (scenario_grid s) e in
           let screens' : screen ≡ layer_slots (λ i. cond (has_screen s i) (across_of s i 0) 0) =
           screens ∙ map-range_ext _ _ 0 20 (λ i low h. slot_held (has_screen s i) {hi = conductance_limit} (omega arith)
@@ -151,7 +149,6 @@ module _ (s : Site) (counts : counts_hold s ≡ true) where
           (λ i j u one. let at = cell_inside s i j u in (limits.storage i j at.0 one at.1).most) in
           rw (e, w, screens', horizontals', verticals', stored')
 
-pub refused : (s : Site) {z : Record} → coefficients_hold (scenario_grid s) ≡ false → z ≡ zero_record
-    → ◌≡◌ {A = Coefficients} (record { held = false; «record» = z }) (coefficients_of s)
-unfolding coefficients_of
-refused s e q = rw (e, q)
+      pub refused : {well : ℕ} → well ≡ well_storage s.water_area → slots_hold (start well) ≡ false → None ≡ coefficients_of s
+      unfolding coefficients_of
+      refused {well} w held = rw (sym (judged well w) ∙ held)

@@ -1,5 +1,5 @@
 -- The coefficients of a scenario: its grid, with C of every face and S of every place, and the record at the start.
-use Rattle.std.specs.Prelude.{cond, pos, get_or, replicate}
+use Rattle.std.specs.Prelude.{cond, pos, get_or, replicate, Option, Some, None}
 use Rattle.limits.specs.Limits.{cell_places}
 use Rattle.network.specs.Grid.{Grid}
 use Rattle.geometry.specs.Geometry.{well_storage}
@@ -8,9 +8,8 @@ use Rattle.site.specs.Columns.{area_at}
 use Rattle.site.specs.Site.{is_screened}
 use Rattle.coefficient_cells.specs.Cells.{across_of, down_of, storage_of}
 use Rattle.record.specs.declared.Record.{Record}
-use Rattle.record.specs.Record.{is_cell, has_below, has_screen, slots, layer_slots, zero_record}
+use Rattle.record.specs.Record.{is_cell, has_below, has_screen, slots, layer_slots}
 use Rattle.coefficient_slots.specs.Slots.{coefficients_hold}
-use Rattle.coefficients.specs.declared.Coefficients.{Coefficients}
 
 -- the grid of a scenario
 unfoldable pub scenario_grid : Site → Grid
@@ -47,9 +46,6 @@ start_record s = record {
   mark = pos 0;
 }
 
--- the answer of 6: whether every C and S is within its limits, and the record at the start if so, else the all-zero record
-unfoldable pub coefficients_of : Site → Coefficients
-coefficients_of s = record {
-  held = coefficients_hold (scenario_grid s);
-  «record» = cond (coefficients_hold (scenario_grid s)) (start_record s) zero_record;
-}
+-- the answer of 6: the record at the start, if every C and S is within its limits
+unfoldable pub coefficients_of : Site → Option Record
+coefficients_of s = cond (coefficients_hold (scenario_grid s)) (Some (start_record s)) None

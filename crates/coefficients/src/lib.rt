@@ -13,10 +13,11 @@ use coefficient_cells::{across, areas_of, down, logarithms_of, storage};
 use coefficient_slots::coefficients_hold;
 use geometry::well_storage;
 use limits::{CELL_PLACES, COLUMN_PLACES, LAYER_PLACES};
-use record::{Record, all_zero};
+use record::Record;
 use site::Site;
 
 // C of layer i between the well and column 1, if the layer is screened.
+#[tactic(auto, unfolding(coefficient_cells::specs::Worked::slot_of, record::specs::Record::is_cell, record::specs::Record::has_screen, site::specs::Site::is_screened))]
 fn at_well(site: Site, logarithms: &[u64; COLUMN_PLACES], i: usize) -> u64
     requires { InLimits site × Logarithms site logarithms.now × (i < layer_places) }
     ensures { result ≡ slot_of (has_screen site i) (across_of site i 0) }
@@ -32,11 +33,9 @@ fn screen_of(site: Site, logarithms: &[u64; COLUMN_PLACES]) -> [u64; LAYER_PLACE
     requires { InLimits site × Logarithms site logarithms.now }
     ensures { result ≡ layer_slots (λ i. slot_of (has_screen site i) (across_of site i 0)) }
 {
-    let mut screen: [u64; LAYER_PLACES] = [0; LAYER_PLACES];
-    let mut i = 0;
-    while i < LAYER_PLACES {
+    let mut screen = [0; LAYER_PLACES];
+    for i in 0..LAYER_PLACES {
         screen[i] = at_well(site, logarithms, i);
-        i += 1;
     }
     screen
 }
@@ -59,73 +58,52 @@ fn cells_of<'a>(
         × (result.vertical ≡ slots (λ i j. slot_of (has_below site i j) (down_of site i j)))
         × (result.storages ≡ slots (λ i j. slot_of (is_cell site i j) (storage_of site i j))) }
 {
-    let mut horizontal: [u64; CELL_PLACES] = [0; CELL_PLACES];
-    let mut vertical: [u64; CELL_PLACES] = [0; CELL_PLACES];
-    let mut storages: [u64; CELL_PLACES] = [0; CELL_PLACES];
-    let mut k = 0;
-    while k < CELL_PLACES {
+    let mut horizontal = [0; CELL_PLACES];
+    let mut vertical = [0; CELL_PLACES];
+    let mut storages = [0; CELL_PLACES];
+    for k in 0..CELL_PLACES {
         let i = k / COLUMN_PLACES;
         let j = k % COLUMN_PLACES + 1;
         horizontal[k] = across(site, logarithms, i, j);
         vertical[k] = down(site, areas, i, j);
         storages[k] = storage(site, areas, i, j);
-        k += 1;
     }
     Cells {
-        horizontal: horizontal,
-        vertical: vertical,
-        storages: storages,
+        horizontal,
+        vertical,
+        storages,
     }
 }
 
-// What rule 6 says of a scenario's coefficients: the record at the start where they hold, else the all-zero record.
-#[derive(Clone, Copy)]
-pub struct Coefficients {
-    pub held: bool,
-    pub record: Record,
-}
-
-pub fn coefficients_of(site: Site) -> Coefficients
+// The record at the start, if rule 6 does not refuse its coefficients.
+pub fn coefficients_of(site: Site) -> Option<Record>
     requires { (counts_hold site ≡ true) × (numbers_hold site ≡ true) × (radii_hold site ≡ true) }
     ensures { result ≡ coefficients_of site }
 {
     let logarithms = logarithms_of(site);
     let areas = areas_of(site);
-    let screen = screen_of(site, &logarithms);
-    let cells = cells_of(site, &logarithms, &areas);
-    let horizontal = cells.horizontal;
-    let vertical = cells.vertical;
-    let storages = cells.storages;
-    if !coefficients_hold(
-        site.layers as usize,
-        site.columns as usize,
-        &site.screened,
-        &screen,
-        &horizontal,
-        &vertical,
-        &storages,
-    ) {
-        return Coefficients {
-            held: false,
-            record: all_zero(),
-        };
-    }
-    let losses: [i64; CELL_PLACES] = [0; CELL_PLACES];
-    Coefficients {
-        held: true,
-        record: Record {
-            site: site,
-            screen: screen,
-            horizontal: horizontal,
-            vertical: vertical,
-            storages: storages,
-            losses: losses,
-            well_storage: well_storage(site.water_area),
-            well_loss: 0,
-            pumped: 0,
-            inflow: 0,
-            time: 0,
-            mark: 0,
-        },
+    let Cells {
+        horizontal,
+        vertical,
+        storages,
+    } = cells_of(site, &logarithms, &areas);
+    let start = Record {
+        site,
+        screen: screen_of(site, &logarithms),
+        horizontal,
+        vertical,
+        storages,
+        losses: [0; CELL_PLACES],
+        well_storage: well_storage(site.water_area),
+        well_loss: 0,
+        pumped: 0,
+        inflow: 0,
+        time: 0,
+        mark: 0,
+    };
+    if coefficients_hold(&start) {
+        Some(start)
+    } else {
+        None
     }
 }

@@ -6,17 +6,16 @@ use Rattle.coefficients.proofs.Laws.{filled_whole}
 use Rattle.coefficients.proofs.cells_of.Goals as goal
 
 pub loop-k-init : goal.loop-k-init
-loop-k-init c = (omega arith, sym (fill_none _ _), sym (fill_none _ _), sym (fill_none _ _))
+loop-k-init c = (sym (fill_none _ _), sym (fill_none _ _), sym (fill_none _ _))
 
 pub loop-k-preserved : goal.loop-k-preserved
 loop-k-preserved c = (
-  omega arith,
-  fill_more _ _ c.loop-k.k c.loop-k.invariant.1 c.across.ensures,
-  fill_more _ _ c.loop-k.k c.loop-k.invariant.2 c.down.ensures,
-  fill_more _ _ c.loop-k.k c.loop-k.invariant.3 c.storage.ensures,
+  fill_more _ _ c.loop-k.k c.loop-k.invariant.0 c.across.ensures,
+  fill_more _ _ c.loop-k.k c.loop-k.invariant.1 c.down.ensures,
+  fill_more _ _ c.loop-k.k c.loop-k.invariant.2 c.storage.ensures,
 )
 
 pub returns : goal.returns
 unfolding slots
 returns c =
-    (filled_whole _ 1000 c.loop-k.invariant.1 (omega arith), filled_whole _ 1000 c.loop-k.invariant.2 (omega arith), filled_whole _ 1000 c.loop-k.invariant.3 (omega arith))
+    (filled_whole _ 1000 c.loop-k.invariant.0 (omega arith), filled_whole _ 1000 c.loop-k.invariant.1 (omega arith), filled_whole _ 1000 c.loop-k.invariant.2 (omega arith))

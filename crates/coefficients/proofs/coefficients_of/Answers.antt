@@ -1,10 +1,8 @@
 -- `coefficients::coefficients_of` meets its contract: its slots, with capped numbers, pass the test where the scenario's coefficients do.
-use Rattle.std.proofs.Common.{◌≡◌, sym, ◌∙◌, arith}
+use Rattle.std.proofs.Common.{sym, ◌∙◌, arith}
 use Rattle.site.specs.Laws.{counts_hold_lem, numbers_hold_lem}
 use Rattle.coefficient_cells.specs.Laws.{judged_site, areas_of_lem}
-use Rattle.coefficient_slots.specs.Slots.{coefficients_hold}
-use Rattle.coefficients.specs.Coefficients.{scenario_grid}
-use Rattle.coefficients.proofs.Held.{judged, taken, refused}
+use Rattle.coefficients.proofs.Held.{taken, refused}
 use Rattle.coefficients.proofs.coefficients_of.Goals as goal
 
 -- ---- Λ and areas are worked
@@ -14,31 +12,27 @@ logarithms_of-logarithms-requires c = judged_site _ c.requires.0 c.requires.1 c.
 pub areas_of-areas-requires : goal.areas_of-areas-requires
 areas_of-areas-requires c = judged_site _ c.requires.0 c.requires.1 c.requires.2
 
-pub screen_of-screen-requires : goal.screen_of-screen-requires
-screen_of-screen-requires c = (judged_site _ c.requires.0 c.requires.1 c.requires.2, c.logarithms_of-logarithms.ensures)
+pub screen_of-requires : goal.screen_of-requires
+screen_of-requires c = (judged_site _ c.requires.0 c.requires.1 c.requires.2, c.logarithms_of-logarithms.ensures)
 
-pub cells_of-cells-requires : goal.cells_of-cells-requires
-cells_of-cells-requires c =
+pub cells_of-requires : goal.cells_of-requires
+cells_of-requires c =
     let within = judged_site _ c.requires.0 c.requires.1 c.requires.2 in
     (within, c.logarithms_of-logarithms.ensures, rw c.areas_of-areas.ensures (areas_of_lem _ within))
-
--- ---- so are C and S, each in its slot
-pub coefficients_hold-requires : goal.coefficients_hold-requires
-coefficients_hold-requires c = omega (arith, counts_hold_lem _ c.requires.0)
-
--- ---- they are judged
-pub returns-then-not-coefficients_hold : goal.returns-then-not-coefficients_hold
-returns-then-not-coefficients_hold c =
-    let test : c.coefficients_hold.result ≡ coefficients_hold (scenario_grid c.args.site) =
-    c.coefficients_hold.ensures ∙ judged _ c.requires.0 c.screen_of-screen.ensures c.cells_of-cells.ensures.0 c.cells_of-cells.ensures.1 c.cells_of-cells.ensures.2 in
-    refused _ (sym test ∙ c.if-not-coefficients_hold.true) c.all_zero.ensures
 
 pub well_storage-requires : goal.well_storage-requires
 well_storage-requires c = omega (arith, (numbers_hold_lem _ c.requires.1).well)
 
-pub returns : goal.returns
-returns c =
-    let test : c.coefficients_hold.result ≡ coefficients_hold (scenario_grid c.args.site) =
-    c.coefficients_hold.ensures ∙ judged _ c.requires.0 c.screen_of-screen.ensures c.cells_of-cells.ensures.0 c.cells_of-cells.ensures.1 c.cells_of-cells.ensures.2 in
-    taken _ c.requires.0 c.screen_of-screen.ensures c.cells_of-cells.ensures.0 c.cells_of-cells.ensures.1 c.cells_of-cells.ensures.2
-    (sym test ∙ c.if-not-coefficients_hold.false) c.well_storage.ensures
+-- ---- so are C and S, each in its slot, and they are judged
+pub coefficients_hold-requires : goal.coefficients_hold-requires
+coefficients_hold-requires c = omega (arith, counts_hold_lem _ c.requires.0)
+
+pub returns-then-coefficients_hold : goal.returns-then-coefficients_hold
+returns-then-coefficients_hold c =
+    taken _ c.requires.0 c.screen_of.ensures c.cells_of.ensures.0 c.cells_of.ensures.1 c.cells_of.ensures.2
+    c.well_storage.ensures (sym c.coefficients_hold.ensures ∙ c.if-coefficients_hold.true)
+
+pub returns-else-coefficients_hold : goal.returns-else-coefficients_hold
+returns-else-coefficients_hold c =
+    refused _ c.requires.0 c.screen_of.ensures c.cells_of.ensures.0 c.cells_of.ensures.1 c.cells_of.ensures.2
+    c.well_storage.ensures (sym c.coefficients_hold.ensures ∙ c.if-coefficients_hold.false)
