@@ -1,94 +1,57 @@
 // Every D of a record within its limit, and the mark.
 #![tactic(auto)]
 
-ghost use Rattle.std.specs.Prelude.{◌≡◌, true, ◌≤◌, ◌<◌, pos, ◌≤ℤ◌};
+ghost use Rattle.std.specs.Prelude.{◌≡◌, ◌*◌, ◌≤◌, ◌<◌, pos, ◌≤ℤ◌, get_or};
 ghost use Rattle.limits.specs.Limits.{drawdown_limit};
-ghost use Rattle.coefficient_slots.specs.Slots.{used_slot};
-ghost use Rattle.coefficient_slots.specs.Held.{inside};
 ghost use Rattle.validity_drawdowns.specs.Drawdowns.{deeper, Stored, depth_slot_holds, depth_slots_hold, depths_hold};
 
 use limits::{CELL_PLACES, COLUMN_PLACES};
+use record::Record;
 use words::multiply::product_le;
 
 // Whether the D of a place with this storage and loss is deeper than the limit, µm: limit + 1 ≤ V×10^6/S. The quotient itself may not fit a word.
+#[tactic(auto, using(crate::proofs::Laws::depths))]
 pub fn deeper_than(limit: u64, storage: u64, loss: i64) -> bool
     requires { (limit ≤ drawdown_limit) × (0 < storage) × (pos 0 ≤ℤ loss) }
     ensures { result ≡ deeper limit storage loss }
 {
-    product_le(limit + 1, storage, loss as u64, 1000000)
+    product_le(limit + 1, storage, loss.unsigned_abs(), 1000000)
 }
 
-// A cell's slot: no D past the mark, µm, nor in layer 1 past `table`.
-fn depth_slot_holds(
-    layers: usize,
-    columns: usize,
-    table: u64,
-    mark: u64,
-    k: usize,
-    storage: u64,
-    loss: i64,
-) -> bool
-    requires { (table ≤ drawdown_limit) × (mark ≤ drawdown_limit) × (used_slot (inside layers columns) k ≡ true → (0 < storage) × (pos 0 ≤ℤ loss)) }
-    ensures { result ≡ depth_slot_holds layers columns table mark k storage loss }
+// A cell's slot: no D past the mark, µm, nor in layer 1 past 1000×b_1.
+#[tactic(auto, unfolding(crate::specs::Drawdowns::depth_slot_holds))]
+fn depth_slot_holds(rec: &Record, mark: u64, k: usize) -> bool
+    requires { (1000 * get_or rec.now.site.thickness 0 0 ≤ drawdown_limit) × (mark ≤ drawdown_limit) × (k < 1000) × Stored rec.now.site.layers rec.now.site.columns rec.now.storages rec.now.losses }
+    ensures { result ≡ depth_slot_holds rec.now.site.layers rec.now.site.columns (1000 * get_or rec.now.site.thickness 0 0) mark k (get_or rec.now.storages k 0) (get_or rec.now.losses k (pos 0)) }
 {
-    if !coefficient_slots::slot_used(layers, columns, k) {
+    let table = 1000 * rec.site.thickness[0];
+    let storage = rec.storages[k];
+    let loss = rec.losses[k];
+    if !coefficient_slots::slot_used(rec.site.layers as usize, rec.site.columns as usize, k) {
         return true;
     }
-    if deeper_than(mark, storage, loss) {
-        return false;
-    }
-    if COLUMN_PLACES <= k {
-        return true;
-    }
-    !deeper_than(table, storage, loss)
+    !deeper_than(mark, storage, loss) && (k >= COLUMN_PLACES || !deeper_than(table, storage, loss))
 }
 
-fn depth_slots_hold<'a>(
-    layers: usize,
-    columns: usize,
-    table: u64,
-    mark: u64,
-    storages: &'a [u64; CELL_PLACES],
-    losses: &'a [i64; CELL_PLACES],
-) -> bool
-    requires { (table ≤ drawdown_limit) × (mark ≤ drawdown_limit) × Stored layers columns storages.now losses.now }
-    ensures { result ≡ depth_slots_hold layers columns table mark storages.now losses.now }
+fn depth_slots_hold(rec: &Record, mark: u64) -> bool
+    requires { (1000 * get_or rec.now.site.thickness 0 0 ≤ drawdown_limit) × (mark ≤ drawdown_limit) × Stored rec.now.site.layers rec.now.site.columns rec.now.storages rec.now.losses }
+    ensures { result ≡ depth_slots_hold rec.now.site.layers rec.now.site.columns (1000 * get_or rec.now.site.thickness 0 0) mark rec.now.storages rec.now.losses }
 {
-    let mut k = 0;
-    while k < CELL_PLACES {
-        if !depth_slot_holds(layers, columns, table, mark, k, storages[k], losses[k]) {
-            return false;
-        }
-        k += 1;
-    }
-    true
+    (0..CELL_PLACES).all(|k| depth_slot_holds(rec, mark, k))
 }
 
-// The mark is not past `intake`, µm; no D is past the mark, nor in layer 1 past `table`. A mark below 0 is under the well's D, which is not below 0
-// here. That the well's D is not past `intake`, nor a cell's past 10^9 µm, follows from these and is not tested again.
-pub fn drawdowns_hold<'a>(
-    layers: usize,
-    columns: usize,
-    table: u64,
-    intake: u64,
-    mark: i64,
-    storages: &'a [u64; CELL_PLACES],
-    losses: &'a [i64; CELL_PLACES],
-    well_storage: u64,
-    well_loss: i64,
-) -> bool
-    requires { (table ≤ drawdown_limit) × (intake ≤ drawdown_limit) × Stored layers columns storages.now losses.now × (0 < well_storage) × (pos 0 ≤ℤ well_loss) }
-    ensures { result ≡ depths_hold layers columns table intake mark storages.now losses.now well_storage well_loss }
+// The mark is not past 1000×p, µm; no D is past the mark, nor in layer 1 past 1000×b_1. A mark below 0 is under the well's D, which is not below 0
+// here. That the well's D is not past 1000×p, nor a cell's past 10^9 µm, follows from these and is not tested again.
+#[tactic(auto, unfolding(crate::specs::Drawdowns::depths_hold))]
+pub fn drawdowns_hold(rec: &Record) -> bool
+    requires { (1000 * get_or rec.now.site.thickness 0 0 ≤ drawdown_limit) × (1000 * rec.now.site.intake ≤ drawdown_limit) × Stored rec.now.site.layers rec.now.site.columns rec.now.storages rec.now.losses × (0 < rec.now.well_storage) × (pos 0 ≤ℤ rec.now.well_loss) }
+    ensures { result ≡ depths_hold rec.now.site.layers rec.now.site.columns (1000 * get_or rec.now.site.thickness 0 0) (1000 * rec.now.site.intake) rec.now.mark rec.now.storages rec.now.losses rec.now.well_storage rec.now.well_loss }
 {
-    if mark < 0 {
+    let intake = 1000 * rec.site.intake;
+    let Ok(mark) = u64::try_from(rec.mark) else {
         return false;
-    }
-    let deepest = mark as u64;
-    if intake < deepest {
-        return false;
-    }
-    if deeper_than(deepest, well_storage, well_loss) {
-        return false;
-    }
-    depth_slots_hold(layers, columns, table, deepest, storages, losses)
+    };
+    mark <= intake
+        && !deeper_than(mark, rec.well_storage, rec.well_loss)
+        && depth_slots_hold(rec, mark)
 }
