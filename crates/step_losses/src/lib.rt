@@ -54,15 +54,13 @@ fn row<'a>(
     ensures before_after { before.new ≡ span start width (λ k. get_or losses.old k (pos 0)) before.old }
 {
     let mut left = from_well;
-    let mut n: usize = 0;
-    while n < width {
+    for n in 0..width {
         let k = start + n;
         let right = crossing(conductances[k], depths[k], depths[k + 1], dt);
         let v = losses[k];
         before[k] = v;
         losses[k] = changed(v, right, down[k], left, upper(down, start, k));
         left = right;
-        n += 1;
     }
     left
 }
@@ -99,8 +97,7 @@ pub fn sweep<'a>(
 {
     let mut loss = well_loss;
     let mut total = inflow;
-    let mut i: usize = 0;
-    while i < layers {
+    for i in 0..layers {
         let start = COLUMN_PLACES * i;
         let from_well = crossing(screen[i], well, depths[start], dt);
         loss += from_well;
@@ -115,7 +112,6 @@ pub fn sweep<'a>(
             losses,
             before,
         );
-        i += 1;
     }
     Swept {
         well_loss: loss,

@@ -20,7 +20,7 @@ was f l l' start n e h = to_z-of_z h ∙ ap (λ x. get_or x (start + n) (pos 0))
 pub loop-n-init : goal.loop-n-init
 loop-n-init c =
     let a = c.args in
-    (omega arith, sym (row_first (water a.conductances.now a.depths.now a.down.now a.dt a.from_well) a.start c.requires.start_value.0), sym (span_none _ _ _), sym (span_none _ _ _))
+    (sym (row_first (water a.conductances.now a.depths.now a.down.now a.dt a.from_well) a.start c.requires.start_value.0), sym (span_none _ _ _), sym (span_none _ _ _))
 
 pub crossing-right-requires-clause-dt_bound : goal.crossing-right-requires-clause-dt_bound
 unfolding flow_at
@@ -34,10 +34,10 @@ changed-requires c =
     let w = water a.conductances.now a.depths.now a.down.now a.dt a.from_well in
     let f : SFits w64 (get_or c.loop-n.losses k (pos 0)) = search rules in
     let d : SFits w64 (get_or a.down.now k (pos 0)) = search rules in
-    let v = was (changed w a.losses.now) a.losses.now c.loop-n.losses a.start c.loop-n.n c.loop-n.invariant.2 f in
+    let v = was (changed w a.losses.now) a.losses.now c.loop-n.losses a.start c.loop-n.n c.loop-n.invariant.1 f in
     let crossed : to_z w64 (of_z w64 c.crossing-right.result) ≡ w.right k = back _ c.crossing-right.type_inv ∙ c.crossing-right.ensures in
     let above : to_z w64 (of_z w64 c.upper.result) ≡ upper w k = back _ c.upper.type_inv ∙ c.upper.ensures in
-    parts_room v crossed (to_z-of_z d) c.loop-n.invariant.1 above (rw (to_z-of_z c.ranges.from_well) (c.requires.by_index_2 c.loop-n.n (omega arith)).room)
+    parts_room v crossed (to_z-of_z d) c.loop-n.invariant.0 above (rw (to_z-of_z c.ranges.from_well) (c.requires.by_index_2 c.loop-n.n (omega arith)).room)
 
 pub loop-n-preserved : goal.loop-n-preserved
 unfolding flow_at upper changed
@@ -48,12 +48,11 @@ loop-n-preserved c =
     let w = water a.conductances.now a.depths.now a.down.now a.dt a.from_well in
     let f : SFits w64 (get_or c.loop-n.losses k (pos 0)) = search rules in
     let d : SFits w64 (get_or a.down.now k (pos 0)) = search rules in
-    let v = was (changed w a.losses.now) a.losses.now c.loop-n.losses a.start n c.loop-n.invariant.2 f in
+    let v = was (changed w a.losses.now) a.losses.now c.loop-n.losses a.start n c.loop-n.invariant.1 f in
     let crossed : to_z w64 (of_z w64 c.crossing-right.result) ≡ w.right k = back _ c.crossing-right.type_inv ∙ c.crossing-right.ensures in
     let above : to_z w64 (of_z w64 c.upper.result) ≡ upper w k = back _ c.upper.type_inv ∙ c.upper.ensures in (
-      omega arith,
       crossed ∙ sym (row_next w a.start c.requires.start_value.0 n (omega arith)),
-      span_more (changed w a.losses.now) a.losses.now a.start n c.loop-n.invariant.2
-          (back _ c.changed.type_inv ∙ c.changed.ensures ∙ parts_sum v crossed (to_z-of_z d) c.loop-n.invariant.1 above),
-      span_more (λ j. get_or a.losses.now j (pos 0)) a.before.now a.start n c.loop-n.invariant.3 v,
+      span_more (changed w a.losses.now) a.losses.now a.start n c.loop-n.invariant.1
+          (back _ c.changed.type_inv ∙ c.changed.ensures ∙ parts_sum v crossed (to_z-of_z d) c.loop-n.invariant.0 above),
+      span_more (λ j. get_or a.losses.now j (pos 0)) a.before.now a.start n c.loop-n.invariant.2 v,
     )

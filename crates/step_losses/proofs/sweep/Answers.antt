@@ -36,7 +36,7 @@ overflow_add-loss c =
     let a = c.args in
     let w = water a.screen.now a.conductances.now a.depths.now a.down.now a.well a.dt in
     let given : to_z w64 (of_z w64 c.crossing-from_well.result) ≡ w.screen c.loop-i.i = back _ c.crossing-from_well.type_inv ∙ c.crossing-from_well.ensures in
-    let more = adding_more w.screen c.loop-i.invariant.0 c.loop-i-test.true in
+    let more = adding_more w.screen c.loop-i.invariant.0 (omega arith) in
     rw given (room_fits more.room (omega arith))
 
 pub row-total-requires-clause-by_index_2 : goal.row-total-requires-clause-by_index_2
@@ -56,7 +56,7 @@ overflow_sub-total c =
     let i = c.loop-i.i in
     let w = water a.screen.now a.conductances.now a.depths.now a.down.now a.well a.dt in
     let taken : to_z w64 (of_z w64 c.row-total.result) ≡ w.right (50 * i + (a.stored - 1)) = back _ c.row-total.type_inv ∙ c.row-total.ensures.value ∙ row_last _ (50 * i) (omega arith) a.stored (omega arith) (omega arith) in
-    let more = adding_more (inflow_from w a.stored) c.loop-i.invariant.1 c.loop-i-test.true in
+    let more = adding_more (inflow_from w a.stored) c.loop-i.invariant.1 (omega arith) in
     rw taken (room_fits more.room (omega arith))
 
 pub loop-i-preserved : goal.loop-i-preserved
@@ -67,8 +67,8 @@ loop-i-preserved c =
     let w = water a.screen.now a.conductances.now a.depths.now a.down.now a.well a.dt in
     let given : to_z w64 (of_z w64 c.crossing-from_well.result) ≡ w.screen i = back _ c.crossing-from_well.type_inv ∙ c.crossing-from_well.ensures in
     let taken : to_z w64 (of_z w64 c.row-total.result) ≡ w.right (50 * i + (a.stored - 1)) = back _ c.row-total.type_inv ∙ c.row-total.ensures.value ∙ row_last _ (50 * i) (omega arith) a.stored (omega arith) (omega arith) in
-    let well = adding_more w.screen c.loop-i.invariant.0 c.loop-i-test.true in
-    let total = adding_more (inflow_from w a.stored) c.loop-i.invariant.1 c.loop-i-test.true in
+    let well = adding_more w.screen c.loop-i.invariant.0 (omega arith) in
+    let total = adding_more (inflow_from w a.stored) c.loop-i.invariant.1 (omega arith) in
     let same = λ (n : ℕ). entered (changed w a.losses.now) a.losses.now c.loop-i.losses a.stored i n (omega arith) c.loop-i.invariant.2 in (
       rw (given, to_z-of_z (room_fits well.room (omega arith))) well,
       rw (taken, to_z-of_z (room_fits total.room (omega arith))) total,

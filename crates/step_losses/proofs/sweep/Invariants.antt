@@ -1,5 +1,5 @@
 -- `step_losses::sweep` meets its contract: after i turns the first i layers are swept, and their water with the well and the last column is added.
-use Rattle.std.proofs.Common.{◌≡◌, ◌-◌, pos, get_or}
+use Rattle.std.proofs.Common.{◌≡◌, pos, get_or}
 use Rattle.laws.specs.Span.{spans}
 use Rattle.laws.specs.Signed.{Adding}
 use Rattle.limits.specs.Limits.{total_limit}
@@ -13,7 +13,3 @@ invariant-loop-i l =
     × Adding total_limit l.inflow (inflow_from (water_in l.conductances l.depths l.down l.dt (screen_at l.screen l.well l.depths l.dt)) l.stored) l.layers l.i l.total
     × (l.losses ≡ spans l.stored l.i (changed (water_in l.conductances l.depths l.down l.dt (screen_at l.screen l.well l.depths l.dt)) l.initial.losses) l.initial.losses)
     × (l.before ≡ spans l.stored l.i (λ k. get_or l.initial.losses k (pos 0)) l.initial.before)
-
-abbrev pub decreases-loop-i : goal.decreases-loop-i
-decreases-loop-i l =
-    l.layers - l.i
