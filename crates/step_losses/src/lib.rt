@@ -1,5 +1,5 @@
 // Losses and the inflow total after a step, from the drawdowns and the losses at its start: arrays by slot, lent and filled.
-// C is in 10^-12 m²/s, D in µm, V and water in nl, times in µs. `down` is the water from a slot to the layer below.
+// C is in 10^-12 m²/s, D in µm, V and water in nl, times in µs.
 #![tactic(auto)]
 
 ghost use Rattle.std.specs.Prelude.{◌≡◌, [], ◌∷◌, ℕ, ◌+◌, ◌*◌, ◌-◌, ◌%◌, ◌≤◌, ◌<◌, pos, neg_ℤ, nat_abs, ◌+ℤ◌, ◌-ℤ◌, leb, get_or};
@@ -33,12 +33,18 @@ fn changed(v: i64, right: i64, lower: i64, left: i64, upper: i64) -> i64
     v + right + lower - left - upper
 }
 
+// What the water of a step's faces goes by, by slot.
+#[derive(Drop)]
+pub struct Faces {
+    pub depths: [u64; CELL_PLACES], // D at the start of the step
+    pub conductances: [u64; CELL_PLACES], // C in use toward the next column
+    pub down: [i64; CELL_PLACES], // water to the layer below
+}
+
 // V after the step of `width` cells of a layer, the first of them in slot `start`, to which water comes `from_well`; what V was is kept in
 // `before`. It gives the water of the layer's last face, that with the last column.
-fn row<'a>(
-    conductances: &'a [u64; CELL_PLACES],
-    depths: &'a [u64; CELL_PLACES],
-    down: &'a [i64; CELL_PLACES],
+fn row(
+    faces: &Faces,
     start: usize,
     width: usize,
     from_well: i64,
@@ -47,19 +53,24 @@ fn row<'a>(
     before: &mut [i64; CELL_PLACES],
 ) -> i64
     requires start_value { (start % 50 ≡ 0) × (width < 50) × (start + width < 1000) × (dt ≤ length_limit) }
-    requires by_index { (k : ℕ) → get_or depths.now k 0 ≤ drawdown_limit }
-    requires by_index_2 { (n : ℕ) → n < width → Within (water_in conductances.now depths.now down.now dt (λ i. from_well)) losses.old (start + n) }
-    ensures value { result ≡ left (water_in conductances.now depths.now down.now dt (λ i. from_well)) (start + width) }
-    ensures losses_after { losses.new ≡ span start width (changed (water_in conductances.now depths.now down.now dt (λ i. from_well)) losses.old) losses.old }
+    requires by_index { (k : ℕ) → get_or faces.now.depths k 0 ≤ drawdown_limit }
+    requires by_index_2 { (n : ℕ) → n < width → Within (water_in faces.now.conductances faces.now.depths faces.now.down dt (λ i. from_well)) losses.old (start + n) }
+    ensures value { result ≡ left (water_in faces.now.conductances faces.now.depths faces.now.down dt (λ i. from_well)) (start + width) }
+    ensures losses_after { losses.new ≡ span start width (changed (water_in faces.now.conductances faces.now.depths faces.now.down dt (λ i. from_well)) losses.old) losses.old }
     ensures before_after { before.new ≡ span start width (λ k. get_or losses.old k (pos 0)) before.old }
 {
     let mut left = from_well;
     for n in 0..width {
         let k = start + n;
-        let right = crossing(conductances[k], depths[k], depths[k + 1], dt);
+        let right = crossing(
+            faces.conductances[k],
+            faces.depths[k],
+            faces.depths[k + 1],
+            dt,
+        );
         let v = losses[k];
         before[k] = v;
-        losses[k] = changed(v, right, down[k], left, upper(down, start, k));
+        losses[k] = changed(v, right, faces.down[k], left, upper(&faces.down, start, k));
         left = right;
     }
     left
@@ -74,11 +85,9 @@ pub struct Swept {
 
 // V of each cell after the step, in `layers` layers and `stored` columns, and in `before` what it was; the other slots stay. `well` is D of the
 // well at the step's start, and `well_loss` its V with what is pumped.
-pub fn sweep<'a>(
-    screen: &'a [u64; LAYER_PLACES],
-    conductances: &'a [u64; CELL_PLACES],
-    depths: &'a [u64; CELL_PLACES],
-    down: &'a [i64; CELL_PLACES],
+pub fn sweep(
+    screen: &[u64; LAYER_PLACES],
+    faces: &Faces,
     layers: usize,
     stored: usize,
     well: u64,
@@ -89,29 +98,19 @@ pub fn sweep<'a>(
     before: &mut [i64; CELL_PLACES],
 ) -> Swept
     requires layers_bound { (layers ≤ 20) × (1 ≤ stored) × (stored ≤ 49) × (well ≤ drawdown_limit) × (dt ≤ length_limit) }
-    requires by_index { (k : ℕ) → get_or depths.now k 0 ≤ drawdown_limit }
-    requires sweepable { Sweepable (water_in conductances.now depths.now down.now dt (screen_at screen.now well depths.now dt)) losses.old layers stored well_loss inflow }
-    ensures value { result ≡ swept_of (water_in conductances.now depths.now down.now dt (screen_at screen.now well depths.now dt)) layers stored well_loss inflow }
-    ensures losses_after { losses.new ≡ spans stored layers (changed (water_in conductances.now depths.now down.now dt (screen_at screen.now well depths.now dt)) losses.old) losses.old }
+    requires by_index { (k : ℕ) → get_or faces.now.depths k 0 ≤ drawdown_limit }
+    requires sweepable { Sweepable (water_in faces.now.conductances faces.now.depths faces.now.down dt (screen_at screen.now well faces.now.depths dt)) losses.old layers stored well_loss inflow }
+    ensures value { result ≡ swept_of (water_in faces.now.conductances faces.now.depths faces.now.down dt (screen_at screen.now well faces.now.depths dt)) layers stored well_loss inflow }
+    ensures losses_after { losses.new ≡ spans stored layers (changed (water_in faces.now.conductances faces.now.depths faces.now.down dt (screen_at screen.now well faces.now.depths dt)) losses.old) losses.old }
     ensures before_after { before.new ≡ spans stored layers (λ k. get_or losses.old k (pos 0)) before.old }
 {
     let mut loss = well_loss;
     let mut total = inflow;
     for i in 0..layers {
         let start = COLUMN_PLACES * i;
-        let from_well = crossing(screen[i], well, depths[start], dt);
+        let from_well = crossing(screen[i], well, faces.depths[start], dt);
         loss += from_well;
-        total -= row(
-            conductances,
-            depths,
-            down,
-            start,
-            stored,
-            from_well,
-            dt,
-            losses,
-            before,
-        );
+        total -= row(faces, start, stored, from_well, dt, losses, before);
     }
     Swept {
         well_loss: loss,

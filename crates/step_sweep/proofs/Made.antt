@@ -1,17 +1,12 @@
 -- What the parts of a step made of lent arrays that are workable: the array of each part holds, slot by slot, what the step's definition says,
 -- and what the arrays worked in are asked to hold they hold again.
-use mathlib.Core.Path.{◌≡◌, refl, sym, ap, ap₂, subst, fun_ext, ◌∙◌}
-use mathlib.Core.Logic.{inl, inr, ⊎_elim}
-use mathlib.Core.List.{List, map}
-use Prim.Native.Nat.{ℕ, zero, suc, ◌+◌, ◌*◌, ◌-◌, ◌%◌, ◌^◌, ◌≤◌, ◌<◌, zero-le}
+use Rattle.std.proofs.Common.{◌≡◌, refl, sym, ap, ap₂, subst, ◌∙◌, inl, inr, ⊎_elim, List, map, ℕ, zero, suc, ◌+◌, ◌*◌, ◌-◌, ◌%◌, ◌^◌, ◌≤◌, ◌<◌, zero-le, mul-le-mul, zero-mul, arith, ℤ, pos, neg_ℤ, nat_abs, ◌+ℤ◌, ◌*ℤ◌, ◌≤ℤ◌, length, get_or, replicate, ext_get_or, lt-ltb, le-ltb}
+use mathlib.Core.Path.{fun_ext}
 use native.Mathlib.Decide.{dec_lt}
-use native.Mathlib.Nat.{mul-le-mul, zero-mul, zero-div}
-use native.Mathlib.Omega.{arith}
-use lib.IntN.{ℤ, pos, neg_ℤ, nat_abs, ◌+ℤ◌, ◌*ℤ◌, +ℤ_assoc, +ℤ_comm}
-use lib.Signed.{◌≤ℤ◌, shr_z}
-use lib.ListN.{length, get_or, replicate, length-replicate, length-map, get_or-map, get_or-eq_default}
-use lib.Seq.{ext_get_or}
-use borrow.Author.Tests.{lt-ltb, le-ltb}
+use native.Mathlib.Nat.{zero-div}
+use lib.IntN.{+ℤ_assoc, +ℤ_comm}
+use lib.Signed.{shr_z}
+use lib.ListN.{length-replicate, length-map, get_or-map, get_or-eq_default}
 use Rattle.laws.specs.Fill.{fill, length-fill, get_or-fill, get_or-fill_rest, fill_ext, fill-every, get_or_same}
 use Rattle.laws.specs.Integer.{≤ℤ_pos, pos_≤ℤ, natural}
 use Rattle.laws.specs.Signed.{room_up}

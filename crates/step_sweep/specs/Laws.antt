@@ -1,6 +1,5 @@
 -- A law of C in use, nothing to believe.
-use Rattle.std.specs.Prelude.{◌≡◌, ℕ, suc, ◌*◌, ℤ, pos, negsuc, ◌+ℤ◌, ◌-ℤ◌, ◌*ℤ◌}
-use Rattle.std.proofs.Common.{zero-mul}
+use Rattle.std.proofs.Common.{◌≡◌, ℕ, suc, ◌*◌, ℤ, pos, negsuc, ◌+ℤ◌, ◌-ℤ◌, ◌*ℤ◌, zero-mul}
 use Rattle.std.proofs.Math.Nat.{zero-div}
 use Rattle.std.specs.Int.Signed.{shr_z}
 use Rattle.network.specs.Network.{saturated, in_use_by}

@@ -6,15 +6,9 @@ ghost use Rattle.std.specs.Prelude.{◌≡◌, pos, length};
 ghost use Rattle.step_drawdowns.specs.Drawdowns.{depth_of, Multiplied};
 ghost use Rattle.step_sweep.specs.Worked.{lent, Workable, Scratch, Worked};
 
-use limits::{CELL_PLACES, COLUMN_PLACES, LAYER_PLACES};
-use step_losses::Swept;
-
-// An array has as many elements as its type says: this does nothing, and tells the proof so.
-fn whole(list: &[i64; CELL_PLACES])
-    ensures { length list.now ≡ 1000 }
-{
-    let _elements: &[i64] = list;
-}
+use limits::{CELL_PLACES, COLUMN_PLACES};
+use record::Record;
+use step_losses::{Faces, Swept};
 
 // What stays the same in every step of a run.
 #[derive(Clone, Copy)]
@@ -32,56 +26,67 @@ pub struct Terms {
     pub dt: u64, // µs
 }
 
-// One step: it moves the cells' losses, of which `before` then has what they were, and gives the well's loss and the inflow total. `well` is the
-// well's D at the start of the step, µm. A multiplier of 0 stands for none. `depths`, `conductances`, `down` and `before` are worked in: what they
-// hold in the slots that a step does not fill stays.
-pub fn work_step<'a>(
+// The arrays that a step works in, by slot. In the slots that a step does not fill they keep what they hold.
+#[derive(Drop)]
+pub struct Workspace {
+    pub faces: Faces,
+    pub before: [i64; CELL_PLACES], // V before the step, nl
+}
+
+// One step: it moves the cells' losses, of which `work.before` then has what they were, and gives the well's loss and the inflow total. `well` is
+// the well's D at the start of the step, µm. A multiplier of 0 stands for none.
+pub fn work_step(
     terms: Terms,
     well_loss: i64,
     well: u64,
     inflow: i64,
-    areas: &'a [u64; COLUMN_PLACES],
-    screen: &'a [u64; LAYER_PLACES],
-    horizontal: &'a [u64; CELL_PLACES],
-    vertical: &'a [u64; CELL_PLACES],
-    storages: &'a [u64; CELL_PLACES],
-    multipliers: &'a [u64; CELL_PLACES],
+    rec: &Record,
+    areas: &[u64; COLUMN_PLACES],
+    multipliers: &[u64; CELL_PLACES],
     losses: &mut [i64; CELL_PLACES],
-    depths: &mut [u64; CELL_PLACES],
-    conductances: &mut [u64; CELL_PLACES],
-    down: &mut [i64; CELL_PLACES],
-    before: &mut [i64; CELL_PLACES],
+    work: &mut Workspace,
 ) -> Swept
-    requires workable { Workable (lent terms well_loss inflow areas.now screen.now horizontal.now vertical.now storages.now losses.old) }
-    requires well_value { (pos well ≡ depth_of well_loss terms.well_storage) × Multiplied multipliers.now storages.now }
-    requires scratch { Scratch terms.layers terms.columns horizontal.now depths.old conductances.old down.old before.old }
-    ensures { Worked (lent terms well_loss inflow areas.now screen.now horizontal.now vertical.now storages.now losses.old) result losses.new depths.new conductances.new down.new before.new }
+    requires workable { Workable (lent terms well_loss inflow areas.now rec.now.screen rec.now.horizontal rec.now.vertical rec.now.storages losses.old) }
+    requires well_value { (pos well ≡ depth_of well_loss terms.well_storage) × Multiplied multipliers.now rec.now.storages }
+    requires scratch { Scratch terms.layers terms.columns rec.now.horizontal work.old.faces.depths work.old.faces.conductances work.old.faces.down work.old.before }
+    ensures { Worked (lent terms well_loss inflow areas.now rec.now.screen rec.now.horizontal rec.now.vertical rec.now.storages losses.old) result losses.new work.new.faces.depths work.new.faces.conductances work.new.faces.down work.new.before }
 {
-    whole(losses);
-    let layers = terms.layers;
-    let stored = terms.columns - 1;
-    let dt = terms.dt;
-    let well_pumped = step_losses::with_pumped(well_loss, terms.rate, dt);
-    step_drawdowns::drawdowns(losses, storages, multipliers, layers, stored, depths);
-    step_flows::in_use(horizontal, depths, terms.thickness, stored, conductances);
+    let Terms {
+        layers,
+        columns,
+        thickness,
+        kv1,
+        b2,
+        kv2,
+        rate,
+        dt,
+        ..
+    } = terms;
+    let stored = columns - 1;
+    let well_pumped = step_losses::with_pumped(well_loss, rate, dt);
+    let Faces {
+        depths,
+        conductances,
+        down,
+    } = &mut work.faces;
+    step_drawdowns::drawdowns(losses, &rec.storages, multipliers, layers, stored, depths);
+    step_flows::in_use(&rec.horizontal, depths, thickness, stored, conductances);
     step_flows::down_flows(
         areas,
-        vertical,
+        &rec.vertical,
         depths,
-        terms.thickness,
-        terms.kv1,
-        terms.b2,
-        terms.kv2,
+        thickness,
+        kv1,
+        b2,
+        kv2,
         layers - 1,
         stored,
         dt,
         down,
     );
     step_losses::sweep(
-        screen,
-        conductances,
-        depths,
-        down,
+        &rec.screen,
+        &work.faces,
         layers,
         stored,
         well,
@@ -89,6 +94,6 @@ pub fn work_step<'a>(
         inflow,
         dt,
         losses,
-        before,
+        &mut work.before,
     )
 }

@@ -20,7 +20,7 @@ was f l l' start n e h = to_z-of_z h ∙ ap (λ x. get_or x (start + n) (pos 0))
 pub loop-n-init : goal.loop-n-init
 loop-n-init c =
     let a = c.args in
-    (sym (row_first (water a.conductances.now a.depths.now a.down.now a.dt a.from_well) a.start c.requires.start_value.0), sym (span_none _ _ _), sym (span_none _ _ _))
+    (sym (row_first (water a.faces.now.conductances a.faces.now.depths a.faces.now.down a.dt a.from_well) a.start c.requires.start_value.0), sym (span_none _ _ _), sym (span_none _ _ _))
 
 pub crossing-right-requires-clause-dt_bound : goal.crossing-right-requires-clause-dt_bound
 unfolding flow_at
@@ -31,9 +31,9 @@ unfolding flow_at upper
 changed-requires c =
     let a = c.args in
     let k = a.start + c.loop-n.n in
-    let w = water a.conductances.now a.depths.now a.down.now a.dt a.from_well in
+    let w = water a.faces.now.conductances a.faces.now.depths a.faces.now.down a.dt a.from_well in
     let f : SFits w64 (get_or c.loop-n.losses k (pos 0)) = search rules in
-    let d : SFits w64 (get_or a.down.now k (pos 0)) = search rules in
+    let d : SFits w64 (get_or a.faces.now.down k (pos 0)) = search rules in
     let v = was (changed w a.losses.now) a.losses.now c.loop-n.losses a.start c.loop-n.n c.loop-n.invariant.1 f in
     let crossed : to_z w64 (of_z w64 c.crossing-right.result) ≡ w.right k = back _ c.crossing-right.type_inv ∙ c.crossing-right.ensures in
     let above : to_z w64 (of_z w64 c.upper.result) ≡ upper w k = back _ c.upper.type_inv ∙ c.upper.ensures in
@@ -45,9 +45,9 @@ loop-n-preserved c =
     let a = c.args in
     let n = c.loop-n.n in
     let k = a.start + n in
-    let w = water a.conductances.now a.depths.now a.down.now a.dt a.from_well in
+    let w = water a.faces.now.conductances a.faces.now.depths a.faces.now.down a.dt a.from_well in
     let f : SFits w64 (get_or c.loop-n.losses k (pos 0)) = search rules in
-    let d : SFits w64 (get_or a.down.now k (pos 0)) = search rules in
+    let d : SFits w64 (get_or a.faces.now.down k (pos 0)) = search rules in
     let v = was (changed w a.losses.now) a.losses.now c.loop-n.losses a.start n c.loop-n.invariant.1 f in
     let crossed : to_z w64 (of_z w64 c.crossing-right.result) ≡ w.right k = back _ c.crossing-right.type_inv ∙ c.crossing-right.ensures in
     let above : to_z w64 (of_z w64 c.upper.result) ≡ upper w k = back _ c.upper.type_inv ∙ c.upper.ensures in (

@@ -7,6 +7,6 @@ use Rattle.step_losses.proofs.row.Given as goal
 
 abbrev pub invariant-loop-n : goal.invariant-loop-n
 invariant-loop-n l =
-    (l.left ≡ left (water_in l.conductances l.depths l.down l.dt (λ i. l.from_well)) (l.start + l.n))
-    × (l.losses ≡ span l.start l.n (changed (water_in l.conductances l.depths l.down l.dt (λ i. l.from_well)) l.initial.losses) l.initial.losses)
+    (l.left ≡ left (water_in l.faces.conductances l.faces.depths l.faces.down l.dt (λ i. l.from_well)) (l.start + l.n))
+    × (l.losses ≡ span l.start l.n (changed (water_in l.faces.conductances l.faces.depths l.faces.down l.dt (λ i. l.from_well)) l.initial.losses) l.initial.losses)
     × (l.before ≡ span l.start l.n (λ k. get_or l.initial.losses k (pos 0)) l.initial.before)

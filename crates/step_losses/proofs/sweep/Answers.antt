@@ -19,7 +19,7 @@ pub loop-i-init : goal.loop-i-init
 loop-i-init c =
     let a = c.args in
     let p = c.requires.sweepable in
-    let w = water a.screen.now a.conductances.now a.depths.now a.down.now a.well a.dt in (
+    let w = water a.screen.now a.faces.now.conductances a.faces.now.depths a.faces.now.down a.well a.dt in (
       rw (to_z-of_z c.ranges.well_loss) (adding_start w.screen a.layers p.well),
       rw (to_z-of_z c.ranges.inflow) (adding_start (inflow_from w a.stored) a.layers p.last),
       sym (spans_none _ _ _),
@@ -34,7 +34,7 @@ pub overflow_add-loss : goal.overflow_add-loss
 unfolding screen_at
 overflow_add-loss c =
     let a = c.args in
-    let w = water a.screen.now a.conductances.now a.depths.now a.down.now a.well a.dt in
+    let w = water a.screen.now a.faces.now.conductances a.faces.now.depths a.faces.now.down a.well a.dt in
     let given : to_z w64 (of_z w64 c.crossing-from_well.result) ≡ w.screen c.loop-i.i = back _ c.crossing-from_well.type_inv ∙ c.crossing-from_well.ensures in
     let more = adding_more w.screen c.loop-i.invariant.0 (omega arith) in
     rw given (room_fits more.room (omega arith))
@@ -44,7 +44,7 @@ unfolding screen_at
 row-total-requires-clause-by_index_2 c =
     let a = c.args in
     let i = c.loop-i.i in
-    let w = water a.screen.now a.conductances.now a.depths.now a.down.now a.well a.dt in
+    let w = water a.screen.now a.faces.now.conductances a.faces.now.depths a.faces.now.down a.well a.dt in
     let given : to_z w64 (of_z w64 c.crossing-from_well.result) ≡ w.screen i = back _ c.crossing-from_well.type_inv ∙ c.crossing-from_well.ensures in
     λ n h. row_within w.right w.lower w.screen i n (omega arith) given a.losses.now c.loop-i.losses
     (entered (changed w a.losses.now) a.losses.now c.loop-i.losses a.stored i n (omega arith) c.loop-i.invariant.2)
@@ -54,7 +54,7 @@ pub overflow_sub-total : goal.overflow_sub-total
 overflow_sub-total c =
     let a = c.args in
     let i = c.loop-i.i in
-    let w = water a.screen.now a.conductances.now a.depths.now a.down.now a.well a.dt in
+    let w = water a.screen.now a.faces.now.conductances a.faces.now.depths a.faces.now.down a.well a.dt in
     let taken : to_z w64 (of_z w64 c.row-total.result) ≡ w.right (50 * i + (a.stored - 1)) = back _ c.row-total.type_inv ∙ c.row-total.ensures.value ∙ row_last _ (50 * i) (omega arith) a.stored (omega arith) (omega arith) in
     let more = adding_more (inflow_from w a.stored) c.loop-i.invariant.1 (omega arith) in
     rw taken (room_fits more.room (omega arith))
@@ -64,7 +64,7 @@ unfolding screen_at
 loop-i-preserved c =
     let a = c.args in
     let i = c.loop-i.i in
-    let w = water a.screen.now a.conductances.now a.depths.now a.down.now a.well a.dt in
+    let w = water a.screen.now a.faces.now.conductances a.faces.now.depths a.faces.now.down a.well a.dt in
     let given : to_z w64 (of_z w64 c.crossing-from_well.result) ≡ w.screen i = back _ c.crossing-from_well.type_inv ∙ c.crossing-from_well.ensures in
     let taken : to_z w64 (of_z w64 c.row-total.result) ≡ w.right (50 * i + (a.stored - 1)) = back _ c.row-total.type_inv ∙ c.row-total.ensures.value ∙ row_last _ (50 * i) (omega arith) a.stored (omega arith) (omega arith) in
     let well = adding_more w.screen c.loop-i.invariant.0 (omega arith) in
@@ -81,7 +81,7 @@ pub returns-clause-value : goal.returns-clause-value
 unfolding swept_of
 returns-clause-value c =
     let a = c.args in
-    let w = water a.screen.now a.conductances.now a.depths.now a.down.now a.well a.dt in
+    let w = water a.screen.now a.faces.now.conductances a.faces.now.depths a.faces.now.down a.well a.dt in
     let well = rw (to_z-of_z c.ranges.well_loss) at (adding_done w.screen c.loop-i.invariant.0 (omega arith)) in
     let total = rw (to_z-of_z c.ranges.inflow) at (adding_done (inflow_from w a.stored) c.loop-i.invariant.1 (omega arith)) in
     rw (well, total)

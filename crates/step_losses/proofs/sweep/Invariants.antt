@@ -9,7 +9,7 @@ use Rattle.step_losses.proofs.sweep.Given as goal
 
 abbrev pub invariant-loop-i : goal.invariant-loop-i
 invariant-loop-i l =
-    Adding well_limit l.well_loss (screen_at l.screen l.well l.depths l.dt) l.layers l.i l.loss
-    × Adding total_limit l.inflow (inflow_from (water_in l.conductances l.depths l.down l.dt (screen_at l.screen l.well l.depths l.dt)) l.stored) l.layers l.i l.total
-    × (l.losses ≡ spans l.stored l.i (changed (water_in l.conductances l.depths l.down l.dt (screen_at l.screen l.well l.depths l.dt)) l.initial.losses) l.initial.losses)
+    Adding well_limit l.well_loss (screen_at l.screen l.well l.faces.depths l.dt) l.layers l.i l.loss
+    × Adding total_limit l.inflow (inflow_from (water_in l.faces.conductances l.faces.depths l.faces.down l.dt (screen_at l.screen l.well l.faces.depths l.dt)) l.stored) l.layers l.i l.total
+    × (l.losses ≡ spans l.stored l.i (changed (water_in l.faces.conductances l.faces.depths l.faces.down l.dt (screen_at l.screen l.well l.faces.depths l.dt)) l.initial.losses) l.initial.losses)
     × (l.before ≡ spans l.stored l.i (λ k. get_or l.initial.losses k (pos 0)) l.initial.before)

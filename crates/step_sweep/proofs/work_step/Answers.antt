@@ -73,7 +73,7 @@ sweep-requires-clause-sweepable c =
     let loss_fits : SFits w64 c.args.well_loss = search rules in
     let inflow_fits : SFits w64 c.args.inflow = search rules in
     let p = c.requires.workable in
-    let e = water_is _ p _ _ _ _ _ c.requires.scratch c.drawdowns.ensures _ _ c.whole.ensures _ c.requires.well_value.0 c.in_use.ensures c.down_flows.ensures in
+    let e = water_is _ p _ _ _ _ _ c.requires.scratch c.drawdowns.ensures _ _ c.told-losses _ c.requires.well_value.0 c.in_use.ensures c.down_flows.ensures in
     let pumped : to_z w64 (of_z w64 c.with_pumped-well_pumped.result) ≡ c.args.well_loss +ℤ pos (c.args.terms.rate * c.args.terms.dt) =
     back _ c.with_pumped-well_pumped.type_inv ∙ rw (to_z-of_z loss_fits) at c.with_pumped-well_pumped.ensures in
     sweepable _ p e pumped (to_z-of_z inflow_fits)
@@ -85,16 +85,16 @@ returns c =
     let p = c.requires.workable in
     let s = c.requires.scratch in
     let d = drawn_are _ p _ _ _ _ _ s c.drawdowns.ensures in
-    let e = water_is _ p _ _ _ _ _ s c.drawdowns.ensures _ _ c.whole.ensures _ c.requires.well_value.0 c.in_use.ensures c.down_flows.ensures in
-    let w = lowered_are _ p _ _ _ _ _ s c.drawdowns.ensures _ _ c.whole.ensures _ c.requires.well_value.0 c.in_use.ensures c.down_flows.ensures in
+    let e = water_is _ p _ _ _ _ _ s c.drawdowns.ensures _ _ c.told-losses _ c.requires.well_value.0 c.in_use.ensures c.down_flows.ensures in
+    let w = lowered_are _ p _ _ _ _ _ s c.drawdowns.ensures _ _ c.told-losses _ c.requires.well_value.0 c.in_use.ensures c.down_flows.ensures in
     let pumped : to_z w64 (of_z w64 c.with_pumped-well_pumped.result) ≡ c.args.well_loss +ℤ pos (c.args.terms.rate * c.args.terms.dt) =
     back _ c.with_pumped-well_pumped.type_inv ∙ rw (to_z-of_z loss_fits) at c.with_pumped-well_pumped.ensures in
-    let kept = before_made _ p c.args.before.now c.sweep.new.before c.whole.ensures s.long.3 s.before c.sweep.ensures.before_after in
+    let kept = before_made _ p c.args.work.now.before c.sweep.new.before c.told-losses s.long.3 s.before c.sweep.ensures.before_after in
     record {
       answer = swept_made _ p e pumped (to_z-of_z inflow_fits) c.sweep.ensures.value;
-      losses = losses_made _ p c.sweep.new.losses e c.whole.ensures c.sweep.ensures.losses_after;
+      losses = losses_made _ p c.sweep.new.losses e c.told-losses c.sweep.ensures.losses_after;
       kept = kept;
       scratch = scratch_again _ p d
-          (conductances_again _ p c.drawdowns.new.depths d c.args.conductances.now c.in_use.new.conductances s.long.1 s.conductances c.in_use.ensures)
-          w c.whole.ensures kept;
+          (conductances_again _ p c.drawdowns.new.depths d c.args.work.now.faces.conductances c.in_use.new.conductances s.long.1 s.conductances c.in_use.ensures)
+          w c.told-losses kept;
     }
