@@ -1,11 +1,11 @@
 -- What the proofs of the readings share: laws only, nothing to believe.
---     refused_at, given_at             the answer at the first test that holds, and where none does
+--     answered                         the answer of the first test that holds, or where none does, is that of the tests
 --     well_back, inflow_back           the machine reads back the well's loss and the inflow total as they are
 --     layer_bounds, column_bounds, cell_bounds, cell_named   a layer, a stored column and a named cell, by their numbers; named_cell: a cell's name and number
 --     named-place, place-named         what is named is a place, and each place is named; named_once: by one name
 --     equal_counts, equal_names, ..    grids with equal counts have as many places, with the same names and numbers
 --     read_depth                       the drawdown that is read at a named place
-use Rattle.std.specs.Prelude.{◌≡◌, Bool, true, List, eqb, leb, ltb, nat_abs, Ok, Err}
+use Rattle.std.specs.Prelude.{◌≡◌, Bool, true, List, eqb, leb, ltb, nat_abs, Result}
 use Rattle.std.proofs.Math.Path.{refl, ap, ap₂}
 use Rattle.std.proofs.Common.{sym, ◌∙◌, true≢false, to_z, of_z}
 use Prim.Native.Nat.{ℕ, zero, suc, ◌-◌, ◌≤◌, ◌<◌, zero-le}
@@ -20,7 +20,8 @@ use Rattle.laws.specs.Rows.{both_hold}
 use Rattle.laws.specs.Signed.{small_fits}
 use Rattle.laws.specs.Sums.{sumℕ_one, mem_range}
 use Rattle.limits.specs.Limits.{total_limit}
-use Rattle.refusals.specs.Refusals.{refusal, given}
+use Rattle.refusals.specs.declared.Refusal.{Refusal}
+use Rattle.refusals.specs.Refusals.{given}
 use Rattle.network.specs.Network.{Network, State, loss_at, drawdown}
 use Rattle.network.specs.Grid.{Grid, place_count, place, one_per_place, network_of}
 use Rattle.network.specs.Kept.{Kept}
@@ -35,14 +36,8 @@ use Rattle.readings.specs.declared.Place.TheVariants.{Well, Cell}
 use Rattle.readings.specs.Readings.{is_layer, is_stored, is_named, number_of, drawdown_of}
 
 -- ---- answers
-module _ {A : Type 0} {ts : List (Bool × ℕ)} where
-  pub refused_at : {n : ℕ} (x : A) → First ts (suc n) → Err (refusal (suc n)) ≡ given (first ts) x
-  unfolding given
-  refused_at x f = rw (← first_is f)
-
-  pub given_at : {x y : A} → First ts 0 → y ≡ x → Ok y ≡ given (first ts) x
-  unfolding given
-  given_at f e = rw (← first_is f) (ap Ok e)
+pub answered : {A : Type 0} {ts : List (Bool × ℕ)} {n : ℕ} (x : A) {a : Result A Refusal} → First ts n → a ≡ given n x → a ≡ given (first ts) x
+answered x f e = rw (← first_is f) e
 
 -- ---- losses
 module _ (N : Network) (s : State) (kept : Kept N s) where
