@@ -9,40 +9,33 @@ ghost use Rattle.validity_table.specs.Table.{table_kept};
 
 use coefficient_cells::areas_of;
 use geometry::from_table;
-use limits::CELL_PLACES;
-use site::Site;
-use words::Quotient;
+use record::Record;
 
 // Whether C of one column is that value.
+#[tactic(auto, unfolding(words::specs::Fitted::fitted))]
 fn slot_kept(c: u64, a: u64, kv1: u64, b2: u64, kv2: u64) -> bool
     requires { (a ≤ 2 ^ 44) × (kv1 ≤ 100000000) × (0 < b2) × (b2 ≤ 1000000) × (kv2 ≤ 100000000) }
     ensures { result ≡ eqb c (from_table a kv1 b2 kv2 0) }
 {
-    match from_table(a, kv1, b2, kv2, 0) {
-        Quotient::Word(value) => c == value,
-        Quotient::Over => false,
-    }
+    from_table(a, kv1, b2, kv2, 0) == Some(c)
 }
 
 // Whether C of every column before the last is.
-pub fn table_kept(site: Site, vertical: &[u64; CELL_PLACES]) -> bool
-    requires { InLimits site }
-    ensures { result ≡ table_kept site vertical.now }
+pub fn table_kept(rec: &Record) -> bool
+    requires { InLimits rec.now.site }
+    ensures { result ≡ table_kept rec.now.site rec.now.vertical }
 {
-    let areas = areas_of(site);
-    let stored = site.columns as usize - 1;
-    let mut k = 0;
-    while k < stored {
+    let areas = areas_of(rec.site);
+    for k in 0..rec.site.columns as usize - 1 {
         if !slot_kept(
-            vertical[k],
+            rec.vertical[k],
             areas[k + 1],
-            site.kv[0],
-            site.thickness[1],
-            site.kv[1],
+            rec.site.kv[0],
+            rec.site.thickness[1],
+            rec.site.kv[1],
         ) {
             return false;
         }
-        k += 1;
     }
     true
 }

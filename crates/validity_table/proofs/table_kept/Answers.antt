@@ -17,11 +17,11 @@ unfolding down_of
 tested s vertical k rings h e = e ∙ rw (rings.at (k + 1) h, add-one k)
 
 pub loop-k-init : goal.loop-k-init
-loop-k-init c = (omega arith, omega (arith, c.requires.counts.columns_most, c.requires.counts.columns_least), all_none _)
+loop-k-init c = all_none _
 
 pub slot_kept-requires : goal.slot_kept-requires
 slot_kept-requires c =
-    let rings : Areas c.args.site c.areas_of-areas.result = rw c.areas_of-areas.ensures (areas_of_lem _ c.requires) in
+    let rings : Areas c.args.rec.now.site c.areas_of-areas.result = rw c.areas_of-areas.ensures (areas_of_lem _ c.requires) in
     let p = c.requires in
     let upper = p.numbers.layer 0 (omega (arith, p.counts.layers_least)) in
     let lower = p.numbers.layer 1 p.counts.layers_least in
@@ -30,18 +30,18 @@ slot_kept-requires c =
 pub returns-then-not-slot_kept : goal.returns-then-not-slot_kept
 unfolding table_kept
 returns-then-not-slot_kept c =
-    let rings : Areas c.args.site c.areas_of-areas.result = rw c.areas_of-areas.ensures (areas_of_lem _ c.requires) in
-    let test = tested c.args.site c.args.vertical.now c.loop-k.k rings (omega arith) c.slot_kept.ensures in
+    let rings : Areas c.args.rec.now.site c.areas_of-areas.result = rw c.areas_of-areas.ensures (areas_of_lem _ c.requires) in
+    let test = tested c.args.rec.now.site c.args.rec.now.vertical c.loop-k.k rings (omega arith) c.slot_kept.ensures in
     sym (all_fails _ _ c.loop-k.k (omega arith) (sym test ∙ c.if-not-slot_kept.true))
 
 pub loop-k-preserved : goal.loop-k-preserved
 loop-k-preserved c =
-    let rings : Areas c.args.site c.areas_of-areas.result = rw c.areas_of-areas.ensures (areas_of_lem _ c.requires) in
-    let test = tested c.args.site c.args.vertical.now c.loop-k.k rings (omega arith) c.slot_kept.ensures in
-    (omega arith, omega arith, all_more _ c.loop-k.k c.loop-k.invariant.2 (sym test ∙ c.if-not-slot_kept.false))
+    let rings : Areas c.args.rec.now.site c.areas_of-areas.result = rw c.areas_of-areas.ensures (areas_of_lem _ c.requires) in
+    let test = tested c.args.rec.now.site c.args.rec.now.vertical c.loop-k.k rings (omega arith) c.slot_kept.ensures in
+    all_more _ c.loop-k.k c.loop-k.invariant (sym test ∙ c.if-not-slot_kept.false)
 
 pub returns : goal.returns
 unfolding table_kept
 returns c =
-    let e : c.args.site.columns - 1 ≡ c.loop-k.k = omega arith in
-    rw e (sym c.loop-k.invariant.2)
+    let e : c.args.rec.now.site.columns - 1 ≡ c.loop-k.k = omega arith in
+    rw e (sym c.loop-k.invariant)
