@@ -4,7 +4,6 @@
 
 ghost use Rattle.std.specs.Prelude.{◌≡◌, ◌*◌, ◌/◌, ◌^◌, ◌<◌};
 
-use words::Quotient;
 use words::divide::{quotient, quotient_word};
 
 // v * 10^6 / s, where it fits a word.
@@ -21,10 +20,7 @@ pub extern "C" fn bench_word(v: u64, s: u64) -> u64
 pub extern "C" fn bench_fitted(v: u64, s: u64) -> u64
     requires { 0 < s }
 {
-    match quotient(v, 1000000, s) {
-        Quotient::Word(q) => q,
-        Quotient::Over => 0,
-    }
+    quotient(v, 1000000, s).unwrap_or(0)
 }
 
 // a * b / 10^12, a literal divisor, where it fits a word.
