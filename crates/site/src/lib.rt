@@ -1,8 +1,8 @@
 // The numbers of a scenario's first four sections, and document 01's limits and rules for them.
 #![tactic(auto)]
 
-ghost use Rattle.std.specs.Prelude.{◌≡◌, ◌&&◌, true, ◌+◌, ◌*◌, ◌≤◌, leb, ltb, get_or, length};
-ghost use Rattle.laws.specs.Lists.{all_below};
+ghost use Rattle.std.specs.Prelude.{◌≡◌, ◌&&◌, true, Some, None, if◌then◌else◌, ◌+◌, ◌*◌, ◌≤◌, leb, ltb};
+ghost use Rattle.std.specs.List.{list_all};
 ghost use Rattle.limits.specs.Limits.{layer_count, column_count, coefficient_count, radius_limits, well_radius_limits, water_area_limits, intake_limits, friction_limits, midsection_factor};
 ghost use Rattle.site.specs.Site.{screen_layer, layer_top, counts_hold, storage_holds, layer_holds, layers_hold, columns_hold, screen_loss_holds, numbers_hold, radii_hold, screen_holds};
 
@@ -83,9 +83,7 @@ fn layers_hold(site: Site) -> bool
     requires { counts_hold site ≡ true }
     ensures { result ≡ layers_hold site }
 {
-    let n = site.layers as usize;
-    let mut i = 0;
-    while i < n {
+    for i in 0..site.layers as usize {
         if !layer_holds(
             i,
             site.thickness[i],
@@ -96,24 +94,15 @@ fn layers_hold(site: Site) -> bool
         ) {
             return false;
         }
-        i += 1;
     }
     true
 }
 
-// Whether the first n numbers are at most `limit`.
-fn at_most(n: usize, numbers: &[u64], limit: u64) -> bool
-    requires { n ≤ length numbers.now }
-    ensures { result ≡ all_below n (λ k. leb (get_or numbers.now k 0) limit) }
+// Whether each number is at most `limit`.
+fn at_most(numbers: &[u64], limit: u64) -> bool
+    ensures { result ≡ list_all (λ x. leb x limit) numbers.now }
 {
-    let mut k = 0;
-    while k < n {
-        if limit < numbers[k] {
-            return false;
-        }
-        k += 1;
-    }
-    true
+    numbers.iter().all(|x| *x <= limit)
 }
 
 // The limits of the well's numbers.
@@ -131,7 +120,7 @@ fn columns_hold(site: Site) -> bool
     requires { counts_hold site ≡ true }
     ensures { result ≡ columns_hold site }
 {
-    at_most(site.columns as usize, &site.radii, RADIUS_LIMIT)
+    at_most(&site.radii[..site.columns as usize], RADIUS_LIMIT)
 }
 
 // The limit of every screen loss coefficient.
@@ -140,8 +129,7 @@ fn coefficients_hold(site: Site) -> bool
     ensures { result ≡ screen_loss_holds site }
 {
     at_most(
-        site.loss_count as usize,
-        &site.loss_coefficients,
+        &site.loss_coefficients[..site.loss_count as usize],
         COEFFICIENT_LIMIT,
     )
 }
@@ -173,36 +161,31 @@ pub fn radii_hold(site: Site) -> bool
     requires { (counts_hold site ≡ true) × (numbers_hold site ≡ true) }
     ensures { result ≡ radii_hold site }
 {
-    let m = site.columns as usize;
     let mut previous = site.well_radius;
     let mut radius = site.well_radius;
-    let mut j = 0;
-    while j < m {
+    // No plainer over the radii themselves: the proof has no length of an array of a struct that is passed by value.
+    for j in 0..site.columns as usize {
         let next = site.radii[j];
         if !column_rises(previous, radius, next) {
             return false;
         }
         previous = radius;
         radius = next;
-        j += 1;
     }
     true
 }
 
-// The topmost screened layer; the number of layers where none is screened.
-fn topmost_screened(site: Site) -> usize
+// The topmost screened layer, if there is one.
+fn topmost_screened(site: Site) -> Option<usize>
     requires { counts_hold site ≡ true }
-    ensures { result ≡ screen_layer site }
+    ensures { result ≡ (if ltb (screen_layer site) site.layers then Some (screen_layer site) else None) }
 {
-    let n = site.layers as usize;
-    let mut i = 0;
-    while i < n {
+    for i in 0..site.layers as usize {
         if site.screened[i] == 1 {
-            return i;
+            return Some(i);
         }
-        i += 1;
     }
-    i
+    None
 }
 
 // The depth of the top of a layer, mm.
@@ -210,13 +193,7 @@ pub fn layer_top(site: Site, layer: usize) -> u64
     requires { (counts_hold site ≡ true) × (numbers_hold site ≡ true) × (layer ≤ site.layers) }
     ensures { (result ≡ layer_top site.thickness layer) × (result ≤ 1000000 * layer) }
 {
-    let mut depth = 0;
-    let mut i = 0;
-    while i < layer {
-        depth += site.thickness[i];
-        i += 1;
-    }
-    depth
+    site.thickness[..layer].iter().sum()
 }
 
 // Rule 5.
@@ -224,7 +201,8 @@ pub fn screen_holds(site: Site) -> bool
     requires { (counts_hold site ≡ true) × (numbers_hold site ≡ true) }
     ensures { result ≡ screen_holds site }
 {
-    let layer = topmost_screened(site);
-    let top = layer_top(site, layer);
-    (layer < site.layers as usize) & (site.screened[0] != 1) & (site.intake < top)
+    match topmost_screened(site) {
+        Some(layer) => (site.screened[0] != 1) & (site.intake < layer_top(site, layer)),
+        None => false,
+    }
 }

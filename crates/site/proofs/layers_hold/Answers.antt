@@ -7,7 +7,7 @@ use Rattle.site.proofs.Laws.{fails, holds}
 use Rattle.site.proofs.layers_hold.Goals as goal
 
 pub loop-i-init : goal.loop-i-init
-loop-i-init c = ((counts_hold_lem _ c.requires).layers_most, omega arith, all_none _)
+loop-i-init c = ((counts_hold_lem _ c.requires).layers_most, all_none _)
 
 pub returns-then-not-layer_holds : goal.returns-then-not-layer_holds
 unfolding layer_at
@@ -17,4 +17,4 @@ returns-then-not-layer_holds c =
 pub loop-i-preserved : goal.loop-i-preserved
 unfolding layer_at
 loop-i-preserved c =
-    (omega arith, omega arith, all_more (layer_at c.args.site) c.loop-i.i c.loop-i.invariant.2 (holds c.layer_holds.ensures c.if-not-layer_holds.false))
+    (c.loop-i.invariant.0, all_more (layer_at c.args.site) c.loop-i.i c.loop-i.invariant.1 (holds c.layer_holds.ensures c.if-not-layer_holds.false))

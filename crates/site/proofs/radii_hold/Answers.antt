@@ -11,33 +11,32 @@ unfolding midsection
 loop-j-init c =
     let counts = counts_hold_lem _ c.requires.0 in
     let well = (numbers_hold_lem _ c.requires.1).well in
-    (counts.columns_most, omega arith, refl, omega arith, omega arith, omega arith, all_none _)
+    (omega arith, refl, omega arith, omega arith, omega arith, all_none _)
 
 pub column_rises-requires : goal.column_rises-requires
 column_rises-requires c =
     let next = (numbers_hold_lem _ c.requires.1).column c.loop-j.j (omega arith) in
-    (le-leb _ _ c.loop-j.invariant.4, le-leb _ _ c.loop-j.invariant.5, le-leb _ _ next)
+    (le-leb _ _ c.loop-j.invariant.3, le-leb _ _ c.loop-j.invariant.4, le-leb _ _ next)
 
 pub returns-then-not-column_rises : goal.returns-then-not-column_rises
 unfolding radii_hold
 returns-then-not-column_rises c =
-    sym (all_fails _ _ c.loop-j.j (omega arith) (fails (c.column_rises.ensures ∙ rises_at _ _ _ _ c.loop-j.invariant.2 c.loop-j.invariant.3) c.if-not-column_rises.true))
+    sym (all_fails _ _ c.loop-j.j (omega arith) (fails (c.column_rises.ensures ∙ rises_at _ _ _ _ c.loop-j.invariant.1 c.loop-j.invariant.2) c.if-not-column_rises.true))
 
 pub loop-j-preserved : goal.loop-j-preserved
 unfolding midsection
 loop-j-preserved c =
     let next = (numbers_hold_lem _ c.requires.1).column c.loop-j.j (omega arith) in (
-      omega arith,
-      omega arith,
+      c.loop-j.invariant.0,
       rw add-one,
       rw add-one (omega arith),
       omega arith,
       omega arith,
-      all_more _ c.loop-j.j c.loop-j.invariant.6 (holds (c.column_rises.ensures ∙ rises_at _ _ _ _ c.loop-j.invariant.2 c.loop-j.invariant.3) c.if-not-column_rises.false),
+      all_more _ c.loop-j.j c.loop-j.invariant.5 (holds (c.column_rises.ensures ∙ rises_at _ _ _ _ c.loop-j.invariant.1 c.loop-j.invariant.2) c.if-not-column_rises.false),
     )
 
 pub returns : goal.returns
 unfolding radii_hold
 returns c =
     let e : c.args.site.columns ≡ c.loop-j.j = omega arith in
-    rw e (sym c.loop-j.invariant.6)
+    rw e (sym c.loop-j.invariant.5)

@@ -4,7 +4,4 @@ use Rattle.site.specs.Site.{topmost_screened, screen_layer}
 use Rattle.site.proofs.topmost_screened.Given as goal
 
 abbrev pub invariant-loop-i : goal.invariant-loop-i
-invariant-loop-i l = (l.n ≤ 20) × (l.i ≤ l.n) × (screen_layer l.site ≡ topmost_screened l.site.screened (l.n - l.i) l.i)
-
-abbrev pub decreases-loop-i : goal.decreases-loop-i
-decreases-loop-i l = l.n - l.i
+invariant-loop-i l = (l.i-end ≤ 20) × (screen_layer l.site ≡ topmost_screened l.site.screened (l.i-end - l.i) l.i)
