@@ -4,22 +4,16 @@
 --     copied_field, copied_section    those, copied one after the other to an array of zeros
 --     places             how far from the front the sections' counts can be; counts_read: what stands there; known: both, and how large they can be
 --     entry_near, entry_read, repeats_read    the places and numbers of the pumping entries; site-read: those of the first four sections, all together
-use mathlib.Core.Path.{◌≡◌, refl, sym, ap, ◌∙◌}
-use mathlib.Core.Bool.{Bool}
-use mathlib.Core.List.{List, [], ◌∷◌}
-use Prim.Native.Nat.{ℕ, suc, ◌+◌, ◌*◌, ◌≤◌, ◌<◌}
-use native.Mathlib.Nat.{add-zero, mul-le-mul_left}
-use native.Mathlib.Omega.{arith}
-use lib.ListN.{length, get_or, drop, replicate, length-drop}
-use lib.Seq.{get_or-take, get_or-drop}
+use Rattle.std.proofs.Common.{◌≡◌, refl, sym, ap, ◌∙◌, Bool, List, ℕ, suc, ◌+◌, ◌*◌, ◌≤◌, ◌<◌, add-zero, mul-le-mul_left, arith, length, get_or, drop, replicate, length-drop}
+use Rattle.std.proofs.Math.Seq.{get_or-take, get_or-drop}
 use Rattle.laws.specs.Lists.{padded}
 use Rattle.laws.specs.Padded.{get_or-padded}
 use Rattle.laws.specs.Pointwise.{fill-padded}
-use Rattle.limits.specs.Limits.{number_places}
+use Rattle.limits.specs.Limits.{layer_places, column_places, coefficient_places, number_places}
 use Rattle.site.specs.declared.Site.{Site}
 use Rattle.sections.specs.declared.Layout.{Layout}
 use Rattle.sections.specs.Sections.{layer_width, entry_width, section_count, section_of, rest_of, field, from_columns, from_well, from_loss, from_pumping, site_of, entries_of}
-use Rattle.sections.specs.Reading.{Reads, field_copy, section_copy, layer_copy}
+use Rattle.sections.specs.Reading.{Reads, field_copy}
 use Rattle.sections.specs.Laws.{SectionFits, Form, form_passed, length_rest, length_section, length-field, get_or-field, Most, counts_most}
 
 module _ (ns : List ℕ) (at : ℕ) {values rest : List ℕ} (held : values ≡ padded number_places 0 ns) (e : rest ≡ drop at ns) where
@@ -56,12 +50,6 @@ module _ (ns : List ℕ) (at : ℕ) {values rest : List ℕ} (held : values ≡ 
         let long : length (section_of 1 rest) ≡ 1 * section_count rest = length_section s in
         fill-padded 0 (λ i. get_or values (from + 1 * i) 0) (section_of 1 rest)
         (λ i lt. section_read 1 i (omega arith) (omega arith) (omega arith)) n m (omega arith)
-
-first_two : (l : List ℕ) → padded 2 0 l ≡ get_or l 0 0 ∷ get_or l 1 0 ∷ []
-unfolding padded
-first_two [] = refl
-first_two (a ∷ []) = refl
-first_two (a ∷ b ∷ l) = refl
 
 -- the place of a section's count, from the place of the one before it
 next_place : (ns rest : List ℕ) (width at next : ℕ) → rest ≡ drop at ns → rest_of width rest ≡ drop next ns → 1 ≤ length (rest_of width rest) → next ≡ at + 1 + width * section_count rest
@@ -135,21 +123,22 @@ module _ {values ns : List ℕ} {layout : Layout} (r : Reads values layout ns) w
   pub known : Places layout × Counts values layout ns × Most ns
   known = (places, counts_read, counts_most form)
 
-  layer_field : (k : ℕ) → k < 5 → layer_copy values k ≡ padded 20 0 (field layer_width k (section_of layer_width ns))
+  layer_field : (k : ℕ) → k < 5 → field_copy values (k + 1) layer_width (get_or values 0 0) (replicate layer_places 0) ≡ padded layer_places 0 (field layer_width k (section_of layer_width ns))
   layer_field k h =
       let m = counts_most form in
-      copied_field ns 0 r.held refl form.layers (omega arith) 20 k h refl counts_read.layers
-
-  section_field : {limits : ℕ → Bool} {rest : List ℕ} (at : ℕ) → rest ≡ drop at ns → SectionFits limits 1 rest → section_count rest ≤ 50 → at ≤ 157 → section_copy values at ≡ padded 50 0 (section_of 1 rest)
-  section_field at e s h near = copied_section ns at r.held e s (omega arith) 50 refl (count_read ns at r.held e (omega arith))
+      copied_field ns 0 r.held refl form.layers (omega arith) layer_places k h (omega arith) counts_read.layers
 
   -- the site, from the copies of its sections' numbers
   pub site-read :
       {thickness screened kh kv storage radii well losses : List ℕ} →
-      thickness ≡ layer_copy values 0 → screened ≡ layer_copy values 1 → kh ≡ layer_copy values 2 → kv ≡ layer_copy values 3 → storage ≡ layer_copy values 4 →
-      radii ≡ section_copy values layout.columns →
-      well ≡ section_copy values layout.well →
-      losses ≡ section_copy values layout.loss →
+      thickness ≡ field_copy values 1 layer_width (get_or values 0 0) (replicate layer_places 0) →
+      screened ≡ field_copy values 2 layer_width (get_or values 0 0) (replicate layer_places 0) →
+      kh ≡ field_copy values 3 layer_width (get_or values 0 0) (replicate layer_places 0) →
+      kv ≡ field_copy values 4 layer_width (get_or values 0 0) (replicate layer_places 0) →
+      storage ≡ field_copy values 5 layer_width (get_or values 0 0) (replicate layer_places 0) →
+      radii ≡ field_copy values (layout.columns + 1) 1 (get_or values layout.columns 0) (replicate column_places 0) →
+      well ≡ field_copy values (layout.well + 1) 1 4 (replicate 4 0) →
+      losses ≡ field_copy values (layout.loss + 1) 1 (get_or values layout.loss 0) (replicate coefficient_places 0) →
       ◌≡◌ {A = Site}
       (record {
         layers = get_or values 0 0;
@@ -165,7 +154,7 @@ module _ {values ns : List ℕ} {layout : Layout} (r : Reads values layout ns) w
         intake = get_or well 2 0;
         friction = get_or well 3 0;
         loss_count = get_or values layout.loss 0;
-        loss_coefficients = get_or losses 0 0 ∷ get_or losses 1 0 ∷ [];
+        loss_coefficients = losses;
       })
       (site_of ns)
   unfolding site_of
@@ -173,24 +162,22 @@ module _ {values ns : List ℕ} {layout : Layout} (r : Reads values layout ns) w
       let f = form in
       let m = counts_most form in
       let p = places in
-      let kept = get_or-padded {A = ℕ} 50 0 in
+      let c = counts_read in
+      let kept = get_or-padded {A = ℕ} 4 0 in
       rw (
         b ∙ layer_field 0 (omega arith),
         screened ∙ layer_field 1 (omega arith),
         kh ∙ layer_field 2 (omega arith),
         kv ∙ layer_field 3 (omega arith),
         storage ∙ layer_field 4 (omega arith),
-        radii ∙ section_field layout.columns r.columns f.columns (omega arith) (omega arith),
-        well ∙ section_field layout.well r.well f.well (omega arith) (omega arith),
-        losses ∙ section_field layout.loss r.loss f.loss (omega arith) (omega arith),
-        counts_read.layers,
-        counts_read.columns,
-        counts_read.loss,
+        radii ∙ copied_section ns layout.columns r.held r.columns f.columns (omega arith) column_places refl c.columns,
+        well ∙ copied_section ns layout.well r.held r.well f.well (omega arith) 4 refl (sym m.well),
+        losses ∙ copied_section ns layout.loss r.held r.loss f.loss (omega arith) coefficient_places refl c.loss,
+        c.layers,
+        c.columns,
+        c.loss,
         kept (section_of 1 (from_well ns)) 0 (omega arith),
         kept (section_of 1 (from_well ns)) 1 (omega arith),
         kept (section_of 1 (from_well ns)) 2 (omega arith),
         kept (section_of 1 (from_well ns)) 3 (omega arith),
-        kept (section_of 1 (from_loss ns)) 0 (omega arith),
-        kept (section_of 1 (from_loss ns)) 1 (omega arith),
-        first_two (section_of 1 (from_loss ns)),
       )

@@ -3,13 +3,15 @@
 // longer text it holds the first.
 #![tactic(auto)]
 
-ghost use Rattle.std.specs.Prelude.{◌≡◌, Bool, true, List, [], ◌∷◌, ◌++◌, ℕ, ◌≤◌, ◌<◌, ltb, get_or, length};
+ghost use Rattle.std.specs.Prelude.{◌≡◌, true, List, ℕ, ◌+◌, ◌*◌, ◌≤◌, ◌<◌, Err, IfOk, MatchResult, length, replicate};
 ghost use Rattle.laws.specs.Lists.{padded, first};
-ghost use Rattle.limits.specs.Limits.{layer_places, column_places, number_places, entry_limit, entry_count, repeat_limits};
+ghost use Rattle.limits.specs.Limits.{column_places, number_places, entry_limit, entry_count, repeat_limits};
+ghost use Rattle.refusals.specs.Refusals.{outcome_of};
 ghost use Rattle.sections.specs.Sections.{layer_width, form_tests, site_of, entries_of, entry_at, repeats_hold};
-ghost use Rattle.sections.specs.Reading.{Reads, Section, Passed, field_copy, section_copy, layer_copy};
+ghost use Rattle.sections.specs.Reading.{Reads, Section, field_copy};
 
-use limits::{COLUMN_PLACES, ENTRY_LIMIT, LAYER_PLACES, NUMBER_PLACES, REPEAT_LIMIT};
+use limits::{ENTRY_LIMIT, NUMBER_PLACES, REPEAT_LIMIT};
+use refusals::Refusal;
 use site::Site;
 
 // How many numbers a layer has, and how many a pumping entry; a record of the other sections is one number.
@@ -17,18 +19,9 @@ const LAYER_WIDTH: usize = 5;
 
 const ENTRY_WIDTH: usize = 3;
 
-// How far the sections have been judged: the first refusal, 0 if there is none yet; and, where there is none, the place of the next section's count.
-#[derive(Clone, Copy)]
-struct Reached {
-    refusal: u64,
-    next: usize,
-}
-
-// A scenario's form: 0, or the refusal that it brings about; and, where that is 0, the place of each section's count.
-// The layers' count stands at place 0.
+// The place of the count of each section but the layers', which is 0.
 #[derive(Clone, Copy)]
 pub struct Layout {
-    pub refusal: u64,
     pub columns: usize,
     pub well: usize,
     pub loss: usize,
@@ -55,118 +48,71 @@ fn repeat_limits(n: u64) -> bool
     1 <= n && n <= REPEAT_LIMIT
 }
 
-// The next section, of `count` records of `width` numbers each: `within` says whether the count is within its limits.
+// The section whose count stands at `at`, of `count` records of `width` numbers each: the place after it. `within` says whether the count is within its limits.
 // No count stands past place 160: the sections before the pumping entries have at most 20 × 5, 50, 4 and 2 numbers.
-fn judge(earlier: Reached, total: usize, width: usize, count: u64, within: bool) -> Reached
-    requires { (earlier.next ≤ 160) × (width ≤ layer_width) × (within ≡ true → count ≤ entry_limit) }
-    ensures { Section total width count within earlier result }
+fn judge(at: usize, total: usize, width: usize, count: u64, within: bool) -> Result<usize, Refusal>
+    requires { (at ≤ 160) × (width ≤ layer_width) × (within ≡ true → count ≤ entry_limit) }
+    ensures value { Section total width count within at result }
+    ensures place { IfOk result (λ next. (within ≡ true) × (next ≡ at + 1 + width * count)) }
 {
-    if earlier.refusal != 0 {
-        return earlier;
-    }
-    let at = earlier.next;
     if total <= at {
-        return Reached {
-            refusal: 1,
-            next: at,
-        };
+        return Err(Refusal::Lines);
     }
     if !within {
-        return Reached {
-            refusal: 2,
-            next: at,
-        };
+        return Err(Refusal::Counts);
     }
     let size = width * (count as usize);
     if total - at <= size {
-        return Reached {
-            refusal: 1,
-            next: at,
-        };
+        return Err(Refusal::Lines);
     }
-    Reached {
-        refusal: 0,
-        next: at + 1 + size,
-    }
+    Ok(at + 1 + size)
 }
 
-// The refusal of all sections: numbers that are left over after the last bring about 1.
-fn finish(earlier: Reached, total: usize) -> u64
-    ensures { (ns rest : List ℕ) (ts : List (Bool × ℕ)) → total ≡ length ns → Passed ns ts rest earlier → result ≡ first (ts ++ (ltb 0 (length rest), 1) ∷ []) }
+// The form of a text's numbers, of which there are `total`: one section after the other, each judged once, and no number left over.
+pub fn layout_of(total: usize, values: &[u64; NUMBER_PLACES]) -> Result<Layout, Refusal>
+    ensures { (ns : List ℕ) → values.now ≡ padded number_places 0 ns → total ≡ length ns → MatchResult result (λ layout. Reads values.now layout ns) (λ refused. outcome_of (first (form_tests ns)) ≡ Err refused) }
 {
-    if earlier.refusal != 0 {
-        return earlier.refusal;
-    }
-    if earlier.next < total { 1 } else { 0 }
-}
-
-// The form of a text's numbers, of which there are `total`: one section after the other, each judged once.
-pub fn layout_of(total: usize, values: &[u64; NUMBER_PLACES]) -> Layout
-    ensures { (ns : List ℕ) → values.now ≡ padded number_places 0 ns → total ≡ length ns → (result.refusal ≡ first (form_tests ns)) × (result.refusal ≡ 0 → Reads values.now result ns) }
-{
-    let start = Reached {
-        refusal: 0,
-        next: 0,
-    };
     let layers = values[0];
-    let past_layers = judge(start, total, LAYER_WIDTH, layers, site::layer_count(layers));
-    let columns = past_layers.next;
+    let columns = judge(0, total, LAYER_WIDTH, layers, site::layer_count(layers))?;
     let m = values[columns];
-    let past_columns = judge(past_layers, total, 1, m, site::column_count(m));
-    let well = past_columns.next;
+    let well = judge(columns, total, 1, m, site::column_count(m))?;
     let well_numbers = values[well];
-    let past_well = judge(past_columns, total, 1, well_numbers, well_numbers == 4);
-    let loss = past_well.next;
+    let loss = judge(well, total, 1, well_numbers, well_numbers == 4)?;
     let coefficients = values[loss];
-    let past_loss = judge(
-        past_well,
+    let pumping = judge(
+        loss,
         total,
         1,
         coefficients,
         site::coefficient_count(coefficients),
-    );
-    let pumping = past_loss.next;
+    )?;
     let entries = values[pumping];
-    let past_pumping = judge(past_loss, total, ENTRY_WIDTH, entries, entry_count(entries));
-    let refusal = finish(past_pumping, total);
-    Layout {
-        refusal,
+    let end = judge(pumping, total, ENTRY_WIDTH, entries, entry_count(entries))?;
+    if end < total {
+        return Err(Refusal::Lines);
+    }
+    Ok(Layout {
         columns,
         well,
         loss,
         pumping,
-    }
+    })
 }
 
-// One number of each of n records of `width` numbers, the first of them at `from`.
-fn copy_field(values: &[u64; NUMBER_PLACES], from: usize, width: usize, n: usize, out: &mut [u64])
-    requires { (from ≤ 160) × (width ≤ layer_width) × (n ≤ column_places) × (n ≤ length out.old) }
-    ensures { out.new ≡ field_copy values.now from width n out.old }
+// One number of each of n records of `width` numbers, the first of them at `from`, and 0 after the last.
+fn copied<const N: usize>(
+    values: &[u64; NUMBER_PLACES],
+    from: usize,
+    width: usize,
+    n: usize,
+) -> [u64; N]
+    requires { (from ≤ 160) × (width ≤ layer_width) × (n ≤ column_places) × (n ≤ N) }
+    ensures { result ≡ field_copy values.now from width n (replicate N 0) }
 {
-    let mut i: usize = 0;
-    while i < n {
+    let mut out = [0; N];
+    for i in 0..n {
         out[i] = values[from + width * i];
-        i += 1;
     }
-}
-
-// Number k of each layer, counted from 0: thickness, screened, Kh, Kv, storage.
-fn layer_field(values: &[u64; NUMBER_PLACES], k: usize) -> [u64; LAYER_PLACES]
-    requires { (k < layer_width) × (get_or values.now 0 0 ≤ layer_places) }
-    ensures { result ≡ layer_copy values.now k }
-{
-    let mut out: [u64; LAYER_PLACES] = [0; LAYER_PLACES];
-    copy_field(values, 1 + k, LAYER_WIDTH, values[0] as usize, &mut out);
-    out
-}
-
-// The numbers of the section whose count stands at `at`, one a record.
-fn section_of(values: &[u64; NUMBER_PLACES], at: usize) -> [u64; COLUMN_PLACES]
-    requires { (at < 160) × (get_or values.now at 0 ≤ column_places) }
-    ensures { result ≡ section_copy values.now at }
-{
-    let mut out: [u64; COLUMN_PLACES] = [0; COLUMN_PLACES];
-    copy_field(values, at + 1, 1, values[at] as usize, &mut out);
     out
 }
 
@@ -175,31 +121,26 @@ pub fn site_of(values: &[u64; NUMBER_PLACES], layout: Layout) -> Site
     requires { (ns : List ℕ) × Reads values.now layout ns }
     ensures { (ns : List ℕ) → Reads values.now layout ns → result ≡ site_of ns }
 {
-    let columns_at = layout.columns;
-    let loss_at = layout.loss;
-    let radii = section_of(values, columns_at);
-    let well = section_of(values, layout.well);
-    let losses = section_of(values, loss_at);
-    let thickness = layer_field(values, 0);
-    let screened = layer_field(values, 1);
-    let kh = layer_field(values, 2);
-    let kv = layer_field(values, 3);
-    let storage = layer_field(values, 4);
+    let layers = values[0];
+    let n = layers as usize;
+    let well: [u64; 4] = copied(values, layout.well + 1, 1, 4);
+    let columns = values[layout.columns];
+    let loss_count = values[layout.loss];
     Site {
-        layers: values[0],
-        thickness,
-        screened,
-        kh,
-        kv,
-        storage,
-        columns: values[columns_at],
-        radii,
+        layers,
+        thickness: copied(values, 1, LAYER_WIDTH, n),
+        screened: copied(values, 2, LAYER_WIDTH, n),
+        kh: copied(values, 3, LAYER_WIDTH, n),
+        kv: copied(values, 4, LAYER_WIDTH, n),
+        storage: copied(values, 5, LAYER_WIDTH, n),
+        columns,
+        radii: copied(values, layout.columns + 1, 1, columns as usize),
         well_radius: well[0],
         water_area: well[1],
         intake: well[2],
         friction: well[3],
-        loss_count: values[loss_at],
-        loss_coefficients: [losses[0], losses[1]],
+        loss_count,
+        loss_coefficients: copied(values, layout.loss + 1, 1, loss_count as usize),
     }
 }
 
@@ -208,8 +149,7 @@ pub fn entries(values: &[u64; NUMBER_PLACES], layout: Layout) -> u64
     requires { (ns : List ℕ) × Reads values.now layout ns }
     ensures { (ns : List ℕ) → Reads values.now layout ns → result ≡ entries_of ns }
 {
-    let at = layout.pumping;
-    values[at]
+    values[layout.pumping]
 }
 
 // Pumping entry i, counted from 0.
@@ -231,14 +171,10 @@ pub fn repeats_hold(values: &[u64; NUMBER_PLACES], layout: Layout) -> bool
     ensures { (ns : List ℕ) → Reads values.now layout ns → result ≡ repeats_hold ns }
 {
     let pumping = layout.pumping;
-    let n = values[pumping] as usize;
-    let mut i: usize = 0;
-    while i < n {
-        let at = pumping + 3 + ENTRY_WIDTH * i;
-        if !repeat_limits(values[at]) {
+    for i in 0..values[pumping] as usize {
+        if !repeat_limits(values[pumping + 3 + ENTRY_WIDTH * i]) {
             return false;
         }
-        i += 1;
     }
     true
 }

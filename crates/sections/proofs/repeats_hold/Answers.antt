@@ -14,17 +14,17 @@ offset_bounds-values-pumping c = omega (arith, places c.requires.1)
 pub bounds-values-pumping : goal.bounds-values-pumping
 bounds-values-pumping c = omega (arith, places c.requires.1)
 
-pub overflow_mul-at : goal.overflow_mul-at
-overflow_mul-at c = omega (arith, entry_near c.requires.1 c.loop-i.i (omega (arith, entries_read c.requires.1)))
+pub overflow_mul-i : goal.overflow_mul-i
+overflow_mul-i c = omega (arith, entry_near c.requires.1 c.loop-i.i (omega (arith, entries_read c.requires.1)))
 
-pub overflow_add-at-in-loop-i : goal.overflow_add-at-in-loop-i
-overflow_add-at-in-loop-i c = omega (arith, entry_near c.requires.1 c.loop-i.i (omega (arith, entries_read c.requires.1)))
+pub overflow_add-pumping-in-loop-i : goal.overflow_add-pumping-in-loop-i
+overflow_add-pumping-in-loop-i c = omega (arith, entry_near c.requires.1 c.loop-i.i (omega (arith, entries_read c.requires.1)))
 
-pub offset_bounds-values-at : goal.offset_bounds-values-at
-offset_bounds-values-at c = omega (arith, entry_near c.requires.1 c.loop-i.i (omega (arith, entries_read c.requires.1)))
+pub offset_bounds-values-pumping-in-loop-i : goal.offset_bounds-values-pumping-in-loop-i
+offset_bounds-values-pumping-in-loop-i c = omega (arith, entry_near c.requires.1 c.loop-i.i (omega (arith, entries_read c.requires.1)))
 
-pub bounds-values-at : goal.bounds-values-at
-bounds-values-at c = omega (arith, entry_near c.requires.1 c.loop-i.i (omega (arith, entries_read c.requires.1)))
+pub bounds-values-pumping-in-loop-i : goal.bounds-values-pumping-in-loop-i
+bounds-values-pumping-in-loop-i c = omega (arith, entry_near c.requires.1 c.loop-i.i (omega (arith, entries_read c.requires.1)))
 
 pub returns-then-not-repeat_limits : goal.returns-then-not-repeat_limits
 unfolding repeats_hold entries_of
@@ -38,4 +38,4 @@ unfolding repeats_hold entries_of
 returns c ns r =
     sym (every_from repeat_limits _ 0 (λ k lt.
     let h : k < entries_of ns = omega (arith, lt, length-field 2 (omega arith) (form r).pumping) in
-    ap repeat_limits (sym (repeats_read r k h)) ∙ c.loop-i.invariant.1 k (omega (arith, h, entries_read r, c.loop-i-test.false))))
+    ap repeat_limits (sym (repeats_read r k h)) ∙ c.loop-i.invariant k (omega (arith, h, entries_read r, c.loop-i-test.false))))

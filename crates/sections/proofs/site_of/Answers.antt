@@ -3,44 +3,52 @@ use Rattle.std.proofs.Common.{arith}
 use Rattle.sections.proofs.Places.{known, site-read}
 use Rattle.sections.proofs.site_of.Goals as goal
 
-pub section_of-radii-requires : goal.section_of-radii-requires
-section_of-radii-requires c = omega (arith, known c.requires.1)
+pub overflow_add-layout : goal.overflow_add-layout
+overflow_add-layout c = omega (arith, known c.requires.1)
 
-pub section_of-well-requires : goal.section_of-well-requires
-section_of-well-requires c = omega (arith, known c.requires.1)
+pub copied-well-requires : goal.copied-well-requires
+copied-well-requires c = omega (arith, known c.requires.1)
 
-pub section_of-losses-requires : goal.section_of-losses-requires
-section_of-losses-requires c = omega (arith, known c.requires.1)
+pub offset_bounds-values-layout : goal.offset_bounds-values-layout
+offset_bounds-values-layout c = omega (arith, known c.requires.1)
 
-pub layer_field-thickness-requires : goal.layer_field-thickness-requires
-layer_field-thickness-requires c = omega (arith, known c.requires.1)
+pub bounds-values-layout : goal.bounds-values-layout
+bounds-values-layout c = omega (arith, known c.requires.1)
 
-pub layer_field-screened-requires : goal.layer_field-screened-requires
-layer_field-screened-requires c = omega (arith, known c.requires.1)
+pub offset_bounds-values-layout-2 : goal.offset_bounds-values-layout-2
+offset_bounds-values-layout-2 c = omega (arith, known c.requires.1)
 
-pub layer_field-kh-requires : goal.layer_field-kh-requires
-layer_field-kh-requires c = omega (arith, known c.requires.1)
+pub bounds-values-layout-2 : goal.bounds-values-layout-2
+bounds-values-layout-2 c = omega (arith, known c.requires.1)
 
-pub layer_field-kv-requires : goal.layer_field-kv-requires
-layer_field-kv-requires c = omega (arith, known c.requires.1)
+pub copied-requires : goal.copied-requires
+copied-requires c = omega (arith, known c.requires.1)
 
-pub layer_field-storage-requires : goal.layer_field-storage-requires
-layer_field-storage-requires c = omega (arith, known c.requires.1)
+pub copied-requires-2 : goal.copied-requires-2
+copied-requires-2 c = omega (arith, known c.requires.1)
 
-pub offset_bounds-values-columns_at : goal.offset_bounds-values-columns_at
-offset_bounds-values-columns_at c = omega (arith, known c.requires.1)
+pub copied-requires-3 : goal.copied-requires-3
+copied-requires-3 c = omega (arith, known c.requires.1)
 
-pub bounds-values-columns_at : goal.bounds-values-columns_at
-bounds-values-columns_at c = omega (arith, known c.requires.1)
+pub copied-requires-4 : goal.copied-requires-4
+copied-requires-4 c = omega (arith, known c.requires.1)
 
-pub offset_bounds-values-loss_at : goal.offset_bounds-values-loss_at
-offset_bounds-values-loss_at c = omega (arith, known c.requires.1)
+pub copied-requires-5 : goal.copied-requires-5
+copied-requires-5 c = omega (arith, known c.requires.1)
 
-pub bounds-values-loss_at : goal.bounds-values-loss_at
-bounds-values-loss_at c = omega (arith, known c.requires.1)
+pub overflow_add-layout-2 : goal.overflow_add-layout-2
+overflow_add-layout-2 c = omega (arith, known c.requires.1)
+
+pub copied-requires-6 : goal.copied-requires-6
+copied-requires-6 c = omega (arith, known c.requires.1)
+
+pub overflow_add-layout-3 : goal.overflow_add-layout-3
+overflow_add-layout-3 c = omega (arith, known c.requires.1)
+
+pub copied-requires-7 : goal.copied-requires-7
+copied-requires-7 c = omega (arith, known c.requires.1)
 
 pub returns : goal.returns
 returns c ns r =
-    site-read r c.layer_field-thickness.ensures c.layer_field-screened.ensures
-    c.layer_field-kh.ensures c.layer_field-kv.ensures c.layer_field-storage.ensures
-    c.section_of-radii.ensures c.section_of-well.ensures c.section_of-losses.ensures
+    site-read r c.copied.ensures c.copied-2.ensures c.copied-3.ensures c.copied-4.ensures c.copied-5.ensures
+    c.copied-6.ensures c.copied-well.ensures c.copied-7.ensures
