@@ -11,7 +11,7 @@ use site::Site;
 // Slot 50×i + j of an array of 1,000 is for layer i + 1 and column j + 1 of document 01: one slot for each cell, also for its face with
 // the next column and its face with the layer below. Slot i of `screen` is for layer i + 1.
 // A slot that no layer, column, face or place uses is 0; so the last column's slots are.
-#[derive(Clone, Copy)]
+#[derive(Clone, Copy, PartialEq, Eq)]
 pub struct Record {
     pub site: Site, // the numbers of the first four sections
     pub screen: [u64; LAYER_PLACES], // C between the well and column 1, 10^-12 m²/s

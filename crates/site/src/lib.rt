@@ -14,7 +14,7 @@ use limits::{
 
 // Slot i of an array by layer is for layer i + 1 of document 01, slot j of `radii` for column j + 1.
 // A slot that no layer, column or coefficient uses is 0.
-#[derive(Clone, Copy)]
+#[derive(Clone, Copy, PartialEq, Eq)]
 pub struct Site {
     pub layers: u64, // how many
     pub thickness: [u64; LAYER_PLACES], // b, mm
