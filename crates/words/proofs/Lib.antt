@@ -1,3 +1,2 @@
 -- Lemmas on plain numbers that more than one function's proof cites.
-mod Columns
 mod Parts
