@@ -1,14 +1,9 @@
 -- The tests that `valid` makes, in its order, and why they are those of 14.
-use mathlib.Core.Path.{◌≡◌, refl, sym, ap, ap₂, subst, ◌∙◌}
-use mathlib.Core.Bool.{Bool, true, false, not, ◌&&◌, ◌||◌, or-true, false≢true}
+use Rattle.std.proofs.Common.{◌≡◌, refl, sym, ap, ap₂, subst, ◌∙◌, Bool, true, false, not, ◌&&◌, ◌||◌, ℕ, zero, suc, ◌+◌, ◌*◌, ◌-◌, ◌≤◌, ◌<◌, arith, leb-true, le-leb, le-ltb, eqb-true, eq-eqb, leb, eqb, ℤ, pos, negsuc, nat_abs, ◌+ℤ◌, get_or, ◌≤ℤ◌}
+use Rattle.std.proofs.Math.Bool.{or-true}
+use Rattle.std.proofs.lemmas.Bool.{false≢true, lt-leb, not-true}
+use Rattle.std.specs.Int.Signed.{non_neg, lt_z}
 use mathlib.Core.List.Memᴰ
-use Prim.Native.Nat.{ℕ, zero, suc, ◌+◌, ◌*◌, ◌-◌, ◌≤◌, ◌<◌}
-use native.Mathlib.Omega.{arith}
-use borrow.Author.Tests.{leb-true, le-leb, lt-leb, le-ltb, eqb-true, eq-eqb, not-true}
-use lib.Dec.{leb, eqb}
-use lib.IntN.{ℤ, pos, negsuc, nat_abs, ◌+ℤ◌}
-use lib.ListN.{get_or}
-use lib.Signed.{non_neg, lt_z, ◌≤ℤ◌}
 use Rattle.laws.specs.All.{all_at, and_left, and_right}
 use Rattle.laws.specs.Integer.{natural, ≤ℤ_pos, pos_≤ℤ, ≤ℤ_up, not_past}
 use Rattle.laws.specs.Rows.{both_hold, same_test, three_hold, four_hold, all_from}
@@ -26,6 +21,8 @@ use Rattle.record.specs.Record.{slot, is_cell, grid_of, state_of}
 use Rattle.coefficient_slots.specs.Slots.{coefficients_hold, coefficients_unused, used_slot}
 use Rattle.coefficient_slots.specs.Held.{inside, slot_holds, array_holds, screen_array_holds, slots_hold}
 use Rattle.coefficient_slots.specs.Laws.{coefficients_hold_lem, hold_coefficients, slot-below, slots-coefficients, used_held, held_from, used_slot_lem, by_slot}
+use Rattle.coefficient_cells.specs.Laws.{judged_site}
+use Rattle.coefficient_cells.specs.Worked.{InLimits}
 use Rattle.validity_numbers.specs.Numbers.{site_holds, site_unused}
 use Rattle.validity_table.specs.Table.{table_kept}
 use Rattle.validity_totals.specs.Totals.{loss_slot_holds, loss_slots_hold, loss_sum, totals_agree}
@@ -46,12 +43,8 @@ slot_passes true (negsuc n) f e = absurd (false≢true (f refl))
 slot_passes false (negsuc n) f e = absurd (false≢true e)
 
 -- ---- the tests and 14
--- that of the drawdowns, by this mark and this V of the well
-abbrev pub depths_by : Record → ℤ → ℤ → Bool
-depths_by r mark well = depths_hold r.site.layers r.site.columns (1000 * get_or r.site.thickness 0 0) (1000 * r.site.intake) mark r.storages r.losses r.well_storage well
-
-abbrev depths_pass : Record → Bool
-depths_pass r = depths_by r r.mark r.well_loss
+abbrev pub depths_pass : Record → Bool
+depths_pass r = depths_hold r.site.layers r.site.columns (1000 * get_or r.site.thickness 0 0) (1000 * r.site.intake) r.mark r.storages r.losses r.well_storage r.well_loss
 
 within : (n : ℕ) (z : ℤ) → z ≤ℤ pos n → lt_z (pos n) z ≡ false
 within n (pos m) h = le-ltb n m (≤ℤ_pos h)
@@ -261,7 +254,7 @@ module _ (r : Record) where
   numbers_pass = site_holds r.site && site_unused r.site
 
   abbrev pub arrays_pass : Bool
-  arrays_pass = slots_hold r.site.layers r.site.columns r.site.screened r.screen r.horizontal r.vertical r.storages
+  arrays_pass = slots_hold r
 
   abbrev pub storage_passes : Bool
   storage_passes = eqb r.well_storage (well_storage r.site.water_area)
@@ -286,6 +279,9 @@ module _ (r : Record) where
   module _ (numbers : numbers_pass ≡ true) where
     pub some_layer : 1 ≤ r.site.layers
     some_layer = layer_1 r (site_passed numbers).0 (site_passed numbers).1
+
+    pub limits_pass : InLimits r.site
+    limits_pass = let site = site_passed numbers in judged_site r.site site.0 site.1 site.2
 
     pub area_most : r.site.water_area ≤ 1000000000
     area_most = (numbers_hold_lem r.site (site_passed numbers).1).well.area_most
@@ -365,3 +361,5 @@ module _ (r : Record) where
 
   pub checked-valid : checked ≡ valid r
   checked-valid = same_test checked (valid r) (λ e. record_valid r (forth e)) (λ e. back (valid_record r e))
+
+pub ruleset tests = (some_layer, limits_pass, area_most, table_most, intake_most, well_stores, cells_store, well_natural)

@@ -9,11 +9,8 @@
 --     zero_refused               14 refuses the all-zero record
 --     equal, itself              the test of two integers holds of equal ones alone, and of each and itself
 use Rattle.std.specs.Prelude.{◌≡◌, refl, Bool, true, false, ◌&&◌, List, ℕ, ◌*◌, ◌^◌, ◌≤◌, ◌<◌, T, leb, ltb, ℤ, pos, negsuc, ◌+ℤ◌, length, ◌≤ℤ◌}
-use Rattle.std.proofs.Common.{ap, zero-le, le_refl, arith, to_z-of_z, to_z, of_z}
-use Rattle.std.proofs.Math.Bool.{not}
-use Rattle.std.proofs.lemmas.Bool.{false≢true}
-use borrow.Author.Tests.{leb-true, le-leb, eqb-true, eq-eqb, not-true}
-use Rattle.std.proofs.Math.Dec.{eqb}
+use Rattle.std.proofs.Common.{ap, zero-le, le_refl, arith, to_z-of_z, to_z, of_z, not, leb-true, le-leb, eqb-true, eq-eqb, eqb}
+use Rattle.std.proofs.lemmas.Bool.{false≢true, not-true}
 use Rattle.std.specs.Int.Signed.{le_z, non_neg, le_z_yes}
 use Rattle.std.specs.Int.{w64}
 use Rattle.laws.specs.Lists.{all_below, every}

@@ -4,7 +4,7 @@
 ghost use Rattle.std.specs.Prelude.{◌≡◌, ◌&&◌, ◌+◌, nat_abs, eqb};
 ghost use Rattle.validity_totals.specs.Totals.{loss_slot_holds, loss_slots_hold, loss_sum, totals_agree};
 
-use limits::TOTAL_LIMIT;
+use limits::{CELL_PLACES, TOTAL_LIMIT};
 use record::Record;
 
 #[tactic(auto, using(crate::proofs::Laws::signs), unfolding(crate::specs::Totals::loss_slot_holds))]
@@ -26,13 +26,13 @@ fn loss_slots_hold(rec: &Record) -> bool
         .all(|(k, loss)| loss_slot_holds(layers, columns, k, *loss))
 }
 
-// Whether the cells' losses and the rest add up to the pumped total. What is left of the total is kept, so that no sum can wrap.
+// Whether the cells' losses and the rest add up to the total. What is left of the total is kept, so that no sum can wrap.
 #[tactic(auto, using(crate::proofs::Laws::losses))]
-fn losses_add_up(rec: &Record, rest: u64) -> bool
-    ensures { result ≡ eqb (loss_sum 1000 rec.now.losses + rest) rec.now.pumped }
+fn losses_add_up(total: u64, losses: &[i64; CELL_PLACES], rest: u64) -> bool
+    ensures { result ≡ eqb (loss_sum 1000 losses.now + rest) total }
 {
-    let mut left = rec.pumped;
-    for loss in &rec.losses {
+    let mut left = total;
+    for loss in losses {
         let loss = loss.unsigned_abs();
         if left < loss {
             return false;
@@ -51,7 +51,8 @@ fn totals_agree(rec: &Record) -> bool
         && rec.pumped <= TOTAL_LIMIT
         && rec.time <= TOTAL_LIMIT
         && losses_add_up(
-            rec,
+            rec.pumped,
+            &rec.losses,
             rec.well_loss.unsigned_abs() + rec.inflow.unsigned_abs(),
         )
 }

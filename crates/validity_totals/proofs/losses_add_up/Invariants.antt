@@ -4,4 +4,4 @@ use Rattle.validity_totals.specs.Totals.{loss_sum}
 use Rattle.validity_totals.proofs.losses_add_up.Given as goal
 
 abbrev pub invariant-loop-loss : goal.invariant-loop-loss
-invariant-loop-loss l = l.left + loss_sum l.loss-index l.rec.losses ≡ l.rec.pumped
+invariant-loop-loss l = l.left + loss_sum l.loss-index l.losses ≡ l.total
