@@ -70,10 +70,10 @@ pub fn drawdown_by(v: i64, s: u64, multiplier: u64) -> u64
 }
 
 // D of `width` cells of a layer, the first of them in slot `start`.
-fn row<'a>(
-    losses: &'a [i64; CELL_PLACES],
-    storages: &'a [u64; CELL_PLACES],
-    multipliers: &'a [u64; CELL_PLACES],
+fn row(
+    losses: &[i64; CELL_PLACES],
+    storages: &[u64; CELL_PLACES],
+    multipliers: &[u64; CELL_PLACES],
     start: usize,
     width: usize,
     depths: &mut [u64; CELL_PLACES],
@@ -90,10 +90,10 @@ fn row<'a>(
 }
 
 // D of each cell in `layers` layers and `stored` columns; the other slots stay.
-pub fn drawdowns<'a>(
-    losses: &'a [i64; CELL_PLACES],
-    storages: &'a [u64; CELL_PLACES],
-    multipliers: &'a [u64; CELL_PLACES],
+pub fn drawdowns(
+    losses: &[i64; CELL_PLACES],
+    storages: &[u64; CELL_PLACES],
+    multipliers: &[u64; CELL_PLACES],
     layers: usize,
     stored: usize,
     depths: &mut [u64; CELL_PLACES],
@@ -116,9 +116,9 @@ pub fn drawdowns<'a>(
 }
 
 // The same in an array of zeros, each by a plain quotient.
-pub fn plain_drawdowns<'a>(
-    losses: &'a [i64; CELL_PLACES],
-    storages: &'a [u64; CELL_PLACES],
+pub fn plain_drawdowns(
+    losses: &[i64; CELL_PLACES],
+    storages: &[u64; CELL_PLACES],
     layers: usize,
     stored: usize,
 ) -> [u64; CELL_PLACES]

@@ -24,9 +24,9 @@ pub fn reduced(c: u64, here: u64, next: u64, thickness: u64, divisor: u64) -> u6
 }
 
 // C in use of the horizontal faces of layer 1, which are those of the first `faces` slots; the other slots stay.
-pub fn in_use<'a>(
-    horizontal: &'a [u64; CELL_PLACES],
-    depths: &'a [u64; CELL_PLACES],
+pub fn in_use(
+    horizontal: &[u64; CELL_PLACES],
+    depths: &[u64; CELL_PLACES],
     thickness: u64,
     faces: usize,
     conductances: &mut [u64; CELL_PLACES],
@@ -64,9 +64,9 @@ pub fn crossing(c: u64, here: u64, next: u64, dt: u64) -> i64
 }
 
 // Water from `width` cells of a layer, the first of them in slot `start`, to the layer below.
-fn down_row<'a>(
-    vertical: &'a [u64; CELL_PLACES],
-    depths: &'a [u64; CELL_PLACES],
+fn down_row(
+    vertical: &[u64; CELL_PLACES],
+    depths: &[u64; CELL_PLACES],
     start: usize,
     width: usize,
     dt: u64,
@@ -84,9 +84,9 @@ fn down_row<'a>(
 }
 
 // Water from the first `stored` cells of layer 1 to layer 2.
-fn table_row<'a>(
-    areas: &'a [u64; COLUMN_PLACES],
-    depths: &'a [u64; CELL_PLACES],
+fn table_row(
+    areas: &[u64; COLUMN_PLACES],
+    depths: &[u64; CELL_PLACES],
     thickness: u64,
     kv1: u64,
     b2: u64,
@@ -109,10 +109,10 @@ fn table_row<'a>(
 }
 
 // Water from each cell of the first `layers` layers, in `stored` columns, to the layer below; the other slots stay.
-pub fn down_flows<'a>(
-    areas: &'a [u64; COLUMN_PLACES],
-    vertical: &'a [u64; CELL_PLACES],
-    depths: &'a [u64; CELL_PLACES],
+pub fn down_flows(
+    areas: &[u64; COLUMN_PLACES],
+    vertical: &[u64; CELL_PLACES],
+    depths: &[u64; CELL_PLACES],
     thickness: u64,
     kv1: u64,
     b2: u64,

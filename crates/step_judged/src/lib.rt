@@ -1,8 +1,7 @@
 // One step of a run on lent arrays, where 14, 7 and 8 let it pass: 9 to 11 are judged, and a step that is taken moves the losses and the course.
 #![tactic(auto)]
 
-ghost use Rattle.std.specs.Prelude.{◌≡◌, ◌+◌, ◌*◌, ◌-◌, ◌≤◌, ◌<◌, pos, ◌≤ℤ◌, get_or, Err};
-ghost use Rattle.laws.specs.Fill.{fill};
+ghost use Rattle.std.specs.Prelude.{◌≡◌, ◌+◌, ◌*◌, ◌-◌, ◌≤◌, ◌<◌, pos, ◌≤ℤ◌, get_or};
 ghost use Rattle.laws.specs.Lists.{larger};
 ghost use Rattle.limits.specs.Limits.{drawdown_limit};
 ghost use Rattle.refusals.specs.Refusals.{outcome_of};
@@ -11,9 +10,10 @@ ghost use Rattle.step_drawdowns.specs.Drawdowns.{Stands, Multiplied};
 ghost use Rattle.step_sweep.specs.Worked.{lent, Scratch};
 ghost use Rattle.step_judged.specs.Course.{too_deep, Advancing, Advances};
 
-use limits::{CELL_PLACES, COLUMN_PLACES, LAYER_PLACES};
+use limits::{CELL_PLACES, COLUMN_PLACES};
+use record::Record;
 use refusals::Refusal;
-use step_sweep::Terms;
+use step_sweep::{Terms, Workspace};
 
 // Where a run has come to, beside the losses of its cells.
 #[derive(Clone, Copy)]
@@ -33,40 +33,12 @@ pub struct Advanced {
     pub course: Course,
 }
 
-// A refused step: the course as it was before it.
-fn halted(refusal: Refusal, course: Course) -> Advanced
-    ensures { result ≡ (record { outcome = Err refusal; course = course }) }
-{
-    Advanced {
-        outcome: Err(refusal),
-        course,
-    }
-}
-
-// The losses as they were, in the slots before the last layer's last column.
-fn restore(
-    before: &[i64; CELL_PLACES],
-    layers: usize,
-    columns: usize,
-    losses: &mut [i64; CELL_PLACES],
-)
-    requires { (1 ≤ layers) × (layers ≤ 20) × (1 ≤ columns) × (columns ≤ 50) }
-    ensures { losses.new ≡ fill (50 * (layers - 1) + (columns - 1)) (λ k. get_or before.now k (pos 0)) losses.old }
-{
-    let n = COLUMN_PLACES * (layers - 1) + (columns - 1);
-    let mut k: usize = 0;
-    while k < n {
-        losses[k] = before[k];
-        k += 1;
-    }
-}
-
-// The first of 10 and 11 that forbids the step, where one does: `well_loss` and `losses` are those after it.
-fn too_deep<'a>(
+// What 10 and 11 say of a step: `well_loss` and `losses` are those after it.
+fn too_deep(
     terms: Terms,
     well_loss: i64,
-    storages: &'a [u64; CELL_PLACES],
-    losses: &'a [i64; CELL_PLACES],
+    storages: &[u64; CELL_PLACES],
+    losses: &[i64; CELL_PLACES],
 ) -> Result<(), Refusal>
     requires intake_bound { (1000 * terms.intake ≤ drawdown_limit) × (0 < terms.well_storage) × (pos 0 ≤ℤ well_loss) }
     requires columns_bound { (terms.columns ≤ 50) × (1000 * terms.thickness ≤ drawdown_limit) × Filled (terms.columns - 1) storages.now losses.now }
@@ -82,82 +54,68 @@ fn too_deep<'a>(
 }
 
 // The mark after a step that leaves the well at this D, both µm.
+#[tactic(auto, using(crate::proofs::Laws::marks))]
 fn raised(mark: i64, depth: u64) -> i64
     requires { depth ≤ drawdown_limit }
     ensures { result ≡ larger mark (pos depth) }
 {
-    let reached = depth as i64;
-    if mark <= reached { reached } else { mark }
+    mark.max(depth as i64)
 }
 
-// One step. A refused step leaves losses and course as they were. `depths`, `conductances`, `down` and `before` are worked in.
-pub fn advance<'a>(
+// One step. A refused step leaves losses and course as they were.
+pub fn advance(
     terms: Terms,
     course: Course,
-    areas: &'a [u64; COLUMN_PLACES],
-    screen: &'a [u64; LAYER_PLACES],
-    horizontal: &'a [u64; CELL_PLACES],
-    vertical: &'a [u64; CELL_PLACES],
-    storages: &'a [u64; CELL_PLACES],
-    multipliers: &'a [u64; CELL_PLACES],
+    rec: &Record,
+    areas: &[u64; COLUMN_PLACES],
+    multipliers: &[u64; CELL_PLACES],
     losses: &mut [i64; CELL_PLACES],
-    depths: &mut [u64; CELL_PLACES],
-    conductances: &mut [u64; CELL_PLACES],
-    down: &mut [i64; CELL_PLACES],
-    before: &mut [i64; CELL_PLACES],
+    work: &mut Workspace,
 ) -> Advanced
-    requires advancing { Advancing (lent terms course.well_loss course.inflow areas.now screen.now horizontal.now vertical.now storages.now losses.old) terms.intake course }
-    requires multiplied { Multiplied multipliers.now storages.now × Stands terms.well_multiplier terms.well_storage }
-    requires scratch { Scratch terms.layers terms.columns horizontal.now depths.old conductances.old down.old before.old }
-    ensures { Advances (lent terms course.well_loss course.inflow areas.now screen.now horizontal.now vertical.now storages.now losses.old) terms.intake course result losses.new depths.new conductances.new down.new before.new }
+    requires advancing { Advancing (lent terms course.well_loss course.inflow areas.now rec.now.screen rec.now.horizontal rec.now.vertical rec.now.storages losses.old) terms.intake course }
+    requires multiplied { Multiplied multipliers.now rec.now.storages × Stands terms.well_multiplier terms.well_storage }
+    requires scratch { Scratch terms.layers terms.columns rec.now.horizontal work.old.faces.depths work.old.faces.conductances work.old.faces.down work.old.before }
+    ensures { Advances (lent terms course.well_loss course.inflow areas.now rec.now.screen rec.now.horizontal rec.now.vertical rec.now.storages losses.old) terms.intake course result losses.new work.new.faces.depths work.new.faces.conductances work.new.faces.down work.new.before }
 {
     if step_conditions::totals_pass(course.pumped, course.time, terms.rate, terms.dt) {
-        return halted(Refusal::Totals, course);
+        return Advanced {
+            outcome: Err(Refusal::Totals),
+            course,
+        };
     }
-    let well_loss = course.well_loss;
-    let inflow = course.inflow;
-    let mark = course.mark;
     let swept = step_sweep::work_step(
         terms,
-        well_loss,
+        course.well_loss,
         course.well_depth,
-        inflow,
+        course.inflow,
+        rec,
         areas,
-        screen,
-        horizontal,
-        vertical,
-        storages,
         multipliers,
         losses,
-        depths,
-        conductances,
-        down,
-        before,
+        work,
     );
-    let well_after = swept.well_loss;
-    let inflow_after = swept.inflow;
-    if let Err(refusal) = too_deep(terms, well_after, storages, losses) {
-        restore(before, terms.layers, terms.columns, losses);
-        return halted(refusal, course);
+    if let Err(refusal) = too_deep(terms, swept.well_loss, &rec.storages, losses) {
+        *losses = work.before;
+        return Advanced {
+            outcome: Err(refusal),
+            course,
+        };
     }
     // 10 has let the step pass, so the well's D is within its bound
     let well_depth = step_drawdowns::drawdown_by(
-        well_after,
+        swept.well_loss,
         terms.well_storage,
         terms.well_multiplier,
     );
-    let mark_after = raised(mark, well_depth);
-    let pumped = course.pumped + terms.rate * terms.dt;
-    let time = course.time + terms.dt;
     Advanced {
         outcome: Ok(()),
         course: Course {
-            well_loss: well_after,
+            well_loss: swept.well_loss,
             well_depth,
-            pumped,
-            inflow: inflow_after,
-            time,
-            mark: mark_after,
+            pumped: course.pumped + terms.rate * terms.dt,
+            inflow: swept.inflow,
+            time: course.time + terms.dt,
+            mark: raised(course.mark, well_depth),
         },
     }
 }

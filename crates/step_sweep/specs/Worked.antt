@@ -32,7 +32,7 @@ pub record Lent : Type 0 where
   pub rate : ℕ
   pub dt : ℕ
 
--- from the parameters of `work_step`, in their order
+-- from what `work_step` is given: the terms, V of the well and the inflow total, the areas, the arrays of the record that it reads, and the losses
 abbrev pub lent : Terms → ℤ → ℤ → List ℕ → List ℕ → List ℕ → List ℕ → List ℕ → List ℤ → Lent
 lent terms well_loss inflow areas screen horizontal vertical storages losses = record {
   layers = terms.layers;

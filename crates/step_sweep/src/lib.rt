@@ -2,7 +2,7 @@
 // C is in 10^-12 m²/s, S in nl per m, V and totals in nl, thicknesses in mm, areas in mm², Kv in nm/s, the rate in ml/s, dt in µs.
 #![tactic(auto)]
 
-ghost use Rattle.std.specs.Prelude.{◌≡◌, pos, length};
+ghost use Rattle.std.specs.Prelude.{◌≡◌, pos};
 ghost use Rattle.step_drawdowns.specs.Drawdowns.{depth_of, Multiplied};
 ghost use Rattle.step_sweep.specs.Worked.{lent, Workable, Scratch, Worked};
 

@@ -1,6 +1,5 @@
 -- At each return the tests on the way give the number that halts the step, or none.
-use Rattle.std.specs.Prelude.{Err}
-use Rattle.std.proofs.Common.{◌≡◌, sym, ap, ◌∙◌, ℕ, ◌<◌, arith, true, w64, to_z, of_z}
+use Rattle.std.proofs.Common.{Err, ◌≡◌, sym, ap, ◌∙◌, ℕ, true, w64, to_z, of_z}
 use Rattle.refusals.specs.declared.Refusal.{Refusal}
 use Rattle.refusals.specs.Refusals.{outcome_of}
 use Rattle.refusals.specs.Laws.{value_given}
@@ -11,8 +10,8 @@ use Rattle.step_losses.specs.declared.Swept.{Swept}
 use Rattle.step_sweep.specs.Worked.{Lent, well_after, inflow_after, worked_of}
 use Rattle.step_judged.specs.declared.Course.{Course}
 use Rattle.step_judged.specs.declared.Advanced.{Advanced}
-use Rattle.step_judged.specs.Course.{too_deep, halts, advanced_of, kept_of, Advancing}
-use Rattle.step_judged.proofs.Laws.{well_back, inflow_back, mark_back, well_after_back, inflow_after_back, depth_within, halted_is, halted_9, taken, judged, restored}
+use Rattle.step_judged.specs.Course.{halts, advanced_of, kept_of, Advancing}
+use Rattle.step_judged.proofs.Laws.{well_back, inflow_back, mark_back, well_after_back, inflow_after_back, depth_within, halted_is, halted_9, taken, judged}
 use Rattle.step_judged.proofs.advance.Goals as goal
 
 module _ {a : Lent} {p : ℕ} {k : Course} (q : Advancing a p k) where
@@ -36,7 +35,7 @@ module _ {a : Lent} {p : ℕ} {k : Course} (q : Advancing a p k) where
 pub returns-then-totals_pass : goal.returns-then-totals_pass
 returns-then-totals_pass c =
     let h = by_9 c.requires.advancing (sym c.totals_pass.ensures ∙ c.if-totals_pass.true) in
-    record { answer = c.halted.ensures ∙ h.0; losses = h.1; scratch = c.requires.scratch }
+    record { answer = h.0; losses = h.1; scratch = c.requires.scratch }
 
 pub too_deep-requires-clause-intake_bound : goal.too_deep-requires-clause-intake_bound
 too_deep-requires-clause-intake_bound c =
@@ -50,7 +49,7 @@ returns-in-Err c =
     let w = rw (well_back q, inflow_back q) at c.work_step-swept.ensures in
     let number = judged _ _ _ _ _ _ _ _ _ _ (sym c.totals_pass.ensures ∙ c.if-totals_pass.false) (well_worked q w.answer) w.losses in
     let h = by_number q _ (sym c.too_deep.ensures ∙ c.in-Err.is) number in
-    record { answer = c.halted-in-Err.ensures ∙ h.0; losses = c.restore.ensures ∙ restored q w.scratch.long.3 w.kept w.losses ∙ h.1; scratch = w.scratch }
+    record { answer = h.0; losses = w.kept ∙ h.1; scratch = w.scratch }
 
 pub drawdown_by-well_depth-requires : goal.drawdown_by-well_depth-requires
 drawdown_by-well_depth-requires c =
@@ -60,8 +59,8 @@ drawdown_by-well_depth-requires c =
     let passed = (value_given _ tt (sym c.too_deep.ensures ∙ c.in_default.is)).0 in
     rw (well_worked q w.answer) (q.well_loss, depth_within q (sym passed ∙ number), q.workable.well_storage, c.requires.multiplied.1)
 
-pub raised-mark_after-requires : goal.raised-mark_after-requires
-raised-mark_after-requires c =
+pub raised-requires : goal.raised-requires
+raised-requires c =
     let q = c.requires.advancing in
     let w = rw (well_back q, inflow_back q) at c.work_step-swept.ensures in
     let number = judged _ _ _ _ _ _ _ _ _ _ (sym c.totals_pass.ensures ∙ c.if-totals_pass.false) (well_worked q w.answer) w.losses in
@@ -76,6 +75,6 @@ returns c =
     let number = judged _ _ _ _ _ _ _ _ _ _ (sym c.totals_pass.ensures ∙ c.if-totals_pass.false) (well_worked q w.answer) w.losses in
     let passed = (value_given _ tt (sym c.too_deep.ensures ∙ c.in_default.is)).0 in
     let depth = rw (well_worked q w.answer) at c.drawdown_by-well_depth.ensures in
-    let mark = back c.raised-mark_after.result c.raised-mark_after.type_inv ∙ rw (mark_back q) at c.raised-mark_after.ensures in
+    let mark = back c.raised.result c.raised.type_inv ∙ rw (mark_back q) at c.raised.ensures in
     let h = taken _ c.args.terms.intake c.args.course (sym passed ∙ number) (well_worked q w.answer) (inflow_worked q w.answer) depth mark w.losses in
     record { answer = h.0; losses = h.1; scratch = w.scratch }
