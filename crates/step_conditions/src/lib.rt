@@ -52,10 +52,5 @@ pub fn table_too_deep<'a>(
     requires { (columns ≤ 50) × (1000 * thickness ≤ drawdown_limit) × Filled (columns - 1) storages.now losses.now }
     ensures { result ≡ not (table_within columns thickness storages.now losses.now) }
 {
-    for k in 0..columns.saturating_sub(1) {
-        if deeper_than(1000 * thickness, storages[k], losses[k]) {
-            return true;
-        }
-    }
-    false
+    (0..columns.saturating_sub(1)).any(|k| deeper_than(1000 * thickness, storages[k], losses[k]))
 }
