@@ -1,9 +1,9 @@
 -- What the definitions give for bore K is what the documents say, row by row: nothing to believe but the last statement.
-use Rattle.std.specs.Prelude.{◌≡◌, refl, ℕ, ℤ, pos}
+use Rattle.std.specs.Prelude.{◌≡◌, refl, ℕ, ℤ, pos, Ok}
 use Rattle.std.proofs.Common.{sym, ap, ap₂, subst, ◌∙◌, arith}
 use Rattle.std.proofs.Math.Path.{fun_ext}
 use mathlib.Core.List.{List, [], ◌∷◌, ◌++◌, map-append, flat_map}
-use Rattle.refusals.specs.Refusals.{outcome_of}
+use Rattle.refusals.specs.Refusals.{refusal_number, refusal as numbered, given, outcome_of}
 use Rattle.laws.specs.Lists.{all_below, padded, first, ifℕ, ifℤ, sumℕ, sumℤ, range, some}
 use Rattle.network.specs.Network.{Rule, Network, State, at_rest, is_place, loss_at, storage_at, drawdown, saturated, at_table, in_use_by, in_use, water, crossing, flow, outflow, toward, inward, loss_after, losses_after, from_last_column, moved, length_out, rate_or_length_out, conductance_sum, stable, unstable, totals_pass, well_too_deep, table_too_deep, step_tests, refusal}
 use Rattle.network.specs.Grid.{layers_of, upper_layers, stored_columns, place, place_count, one_per_place, across_rule, down_rule, across_face, down_face, screen_faces, faces_of, network_of}
@@ -77,8 +77,8 @@ unfolding from_table all_below first ifℕ ifℤ sumℕ sumℤ range some is_pla
 third_k = refl
 
 -- the rows of start
-start_agrees : Agree (start_rows (record { outcome = outcome_of 0; «record» = start_record site_k }))
-unfolding Agree start_rows outcome_number outcome_of numbers_k padded range terms ratio series_logarithm logarithm area horizontal from_table unconfined_storage confined_storage is_screened midsection section_count section_of rest_of from_columns from_well from_loss field site_of slot slots layer_slots is_cell has_below has_screen logarithm_at area_at across_of down_of storage_of start_record
+start_agrees : Agree (start_rows (record { outcome = Ok tt; «record» = start_record site_k }))
+unfolding Agree start_rows outcome_number numbers_k padded range terms ratio series_logarithm logarithm area horizontal from_table unconfined_storage confined_storage is_screened midsection section_count section_of rest_of from_columns from_well from_loss field site_of slot slots layer_slots is_cell has_below has_screen logarithm_at area_at across_of down_of storage_of start_record
 start_agrees = refl
 
 answer_agrees : Agree (start_rows (start_of bore_k))
@@ -107,7 +107,7 @@ network_of_lem r h = network_is h ∙ network_k_lem
 
 -- the rows of the first step's length
 length_computed : Agree (length_rows (λ dt. outcome_number (outcome_of (refusal network_k state0 1000 dt))))
-unfolding Agree length_rows outcome_number outcome_of network_k state0 from_table all_below first ifℕ ifℤ sumℕ sumℤ range some loss_at storage_at drawdown saturated at_table in_use_by in_use water crossing flow outflow loss_after losses_after length_out rate_or_length_out conductance_sum stable unstable totals_pass well_too_deep table_too_deep step_tests refusal
+unfolding Agree length_rows outcome_number refusal_number numbered given network_k state0 from_table all_below first ifℕ ifℤ sumℕ sumℤ range some loss_at storage_at drawdown saturated at_table in_use_by in_use water crossing flow outflow loss_after losses_after length_out rate_or_length_out conductance_sum stable unstable totals_pass well_too_deep table_too_deep step_tests refusal
 length_computed = refl
 
 length_agrees : (r : Record) → InState state0 r → Agree (length_rows (λ dt. outcome_number (step_of r 1000 dt).outcome))

@@ -1,10 +1,10 @@
 -- Start accepts bore K, and what it gives: computed part by part, for the table's proof. Laws only, nothing to believe.
 --     scenario_k     the scenario of bore K's text is that of its numbers
 --     started        start's answer
-use Rattle.std.specs.Prelude.{◌≡◌, refl, true}
+use Rattle.std.specs.Prelude.{◌≡◌, refl, true, Ok}
 use Rattle.std.proofs.Common.{ap, ◌∙◌}
 use mathlib.Core.List.{get_last_d, flat_map}
-use Rattle.refusals.specs.Refusals.{outcome_of}
+use Rattle.refusals.specs.Refusals.{given}
 use Rattle.laws.specs.Lists.{first, all_below, every, padded, range}
 use Rattle.laws.specs.Refusal.{first-after}
 use Rattle.decimal.specs.Decimal.{is_digit, value, no_leading_zero, numeral, digits_in, digits_of}
@@ -66,6 +66,6 @@ pub scenario_k : scenario_of bore_k ≡ site_of numbers_k
 unfolding scenario_of
 scenario_k = ap site_of numbers_k_lem
 
-pub started : start_of bore_k ≡ record { outcome = outcome_of 0; «record» = start_record (site_of numbers_k) }
-unfolding start_of answer_of
+pub started : start_of bore_k ≡ record { outcome = Ok tt; «record» = start_record (site_of numbers_k) }
+unfolding start_of answer_of given
 started = rw (accepted, scenario_k)

@@ -2,6 +2,7 @@
 --     told_depth, told_budget, ..           each reading answers what the ledger has for it
 --     same_budget, same_loss, same_depth    so where it is given, it gives what the ledger's network and state give
 --     set-inside, set-loss                  the set that bytes give has places only; its storage loss is that of the bytes
+use Rattle.std.specs.Prelude.{Ok}
 use mathlib.Core.Path.{◌≡◌, refl, ap, fun_ext, ◌∙◌}
 use mathlib.Core.Bool.{Bool, true, false, cond, not, ◌&&◌, ◌||◌, false≢true}
 use mathlib.Core.List.{List, [], ◌∷◌, map, flat_map}
@@ -13,6 +14,7 @@ use lib.IntN.{ℤ, neg_ℤ}
 use lib.ListN.{length, get_or}
 use lib.Signed.{lt_z}
 use borrow.Author.Tests.{leb-true, ltb-true, lt-ltb, eqb-true, eq-eqb, not-false}
+use Rattle.refusals.specs.Refusals.{given}
 use Rattle.laws.specs.All.{and_left}
 use Rattle.laws.specs.Lists.{first, range}
 use Rattle.laws.specs.Refusal.{passed}
@@ -30,11 +32,11 @@ use Rattle.validity.specs.Validity.{valid}
 use Rattle.coefficients.specs.Coefficients.{scenario_grid}
 use Rattle.readings.specs.declared.Place.{Place}
 use Rattle.readings.specs.declared.Place.TheVariants.{Well, Cell}
-use Rattle.readings.specs.Readings.{amount_of, balance_of, sameness_of, is_layer, is_stored, is_named, number_of, totals_in, drawdown_of, budget_of, set_of, loss_of, leads, face_from, water_from, flow_of, deep_count_in, deep_count, deep_refusal, codes_at, deep_codes_in, deep_codes, listed_of, deep_of, same_record, same_of}
+use Rattle.readings.specs.Readings.{is_layer, is_stored, is_named, number_of, totals_in, drawdown_of, budget_of, set_of, loss_of, leads, face_from, water_from, flow_of, deep_count_in, deep_count, deep_refusal, codes_at, deep_codes_in, deep_codes, listed_of, deep_of, same_record, same_of}
 use Rattle.readings.specs.Laws.{layer_bounds, column_bounds, equal_counts, equal_names, equal_places, equal_numbers}
 use Rattle.hydraulics.specs.Hydraulics.{inflow_of}
 use Rattle.pipe.specs.Laws.{pipe_loss_same}
-use Rattle.read_head_loss.specs.HeadLoss.{water_into, losses_at, loss_answer_of, is_screened_layer, head_loss_refusal, head_loss_of}
+use Rattle.read_head_loss.specs.HeadLoss.{water_into, losses_at, is_screened_layer, head_loss_refusal, head_loss_of}
 use Rattle.read_limiting.specs.declared.Limiting.{Limiting}
 use Rattle.read_limiting.specs.Limiting.{foremost, longest_at, shortest_place, deeper_at, deepest_column, name_of, too_long_in, past_bottom_in, limiting_in, limiting_of}
 use Rattle.start_laws.specs.Laws.{Carries, network_is, screen_is, across_is, down_is}
@@ -42,9 +44,10 @@ use Rattle.start_laws.specs.Steps.{refusal_is}
 use Rattle.ledger.specs.Ledger.{in_set}
 
 -- an answer by the number of a refusal, where the value counts only if the number is 0
-given_same : {A B : Type 0} (f : ℕ → A → B) → ((k : ℕ) (x y : A) → f (suc k) x ≡ f (suc k) y) → (n : ℕ) {x y : A} → (n ≡ 0 → x ≡ y) → f n x ≡ f n y
-given_same f refused zero e = ap (f 0) (e refl)
-given_same f refused (suc n) {x} {y} e = refused n x y
+given_same : {A : Type 0} (n : ℕ) {x y : A} → (n ≡ 0 → x ≡ y) → given n x ≡ given n y
+unfolding given
+given_same zero e = ap Ok (e refl)
+given_same (suc n) e = refl
 
 module _ {scenario : Site} {s : State} {r : Record} (h : Carries scenario s r) where
   abbrev G : Grid
@@ -84,29 +87,29 @@ module _ {scenario : Site} {s : State} {r : Record} (h : Carries scenario s r) w
 
   -- ---- drawdown, budget, storage loss
 
-  pub told_depth : (p : Place) → drawdown_of r p ≡ amount_of (first ((not (is_named G p), 12) ∷ [])) (network.drawdown N s.losses (number_of G p))
+  pub told_depth : (p : Place) → drawdown_of r p ≡ given (first ((not (is_named G p), 12) ∷ [])) (network.drawdown N s.losses (number_of G p))
   unfolding drawdown_of first
   told_depth p = rw (h.valid, same_name p, network_is h, h.state, same_number p)
 
-  pub same_depth : (p : Place) → is_named G p ≡ true → drawdown_of r p ≡ amount_of 0 (network.drawdown N s.losses (number_of G p))
-  unfolding first
+  pub same_depth : (p : Place) → is_named G p ≡ true → drawdown_of r p ≡ Ok (network.drawdown N s.losses (number_of G p))
+  unfolding first given
   same_depth p e = told_depth p ∙ rw e
 
   module _ {mark : ℤ} (e : r.mark ≡ mark) where
-    pub told_budget : budget_of r ≡ balance_of 0 (totals_in N s mark)
-    unfolding budget_of first
-    told_budget = rw (h.valid, network_is h, h.state) (ap (λ m. balance_of 0 (totals_in N s m)) e)
+    pub told_budget : budget_of r ≡ Ok (totals_in N s mark)
+    unfolding budget_of first given
+    told_budget = rw (h.valid, network_is h, h.state) (ap (λ m. Ok (totals_in N s m)) e)
 
-    pub same_budget : budget_of r ≡ balance_of 0 (record { pumped = s.pumped; well_loss = loss_at s.losses 0; cell_loss = loss_in N (λ p. ltb 0 p) s.losses; inflow = s.inflow; mark = mark })
+    pub same_budget : budget_of r ≡ Ok (record { pumped = s.pumped; well_loss = loss_at s.losses 0; cell_loss = loss_in N (λ p. ltb 0 p) s.losses; inflow = s.inflow; mark = mark })
     unfolding totals_in
     same_budget = told_budget
 
-  pub told_loss : (bytes : List ℕ) → loss_of r bytes ≡ amount_of (first ((not (eqb (length bytes) (place_count G)), 13) ∷ [])) (loss_in N (set_of bytes) s.losses)
+  pub told_loss : (bytes : List ℕ) → loss_of r bytes ≡ given (first ((not (eqb (length bytes) (place_count G)), 13) ∷ [])) (loss_in N (set_of bytes) s.losses)
   unfolding loss_of first
   told_loss bytes = rw (h.valid, same_count, network_is h, h.state)
 
-  pub same_loss : (bytes : List ℕ) → length bytes ≡ place_count G → loss_of r bytes ≡ amount_of 0 (loss_in N (set_of bytes) s.losses)
-  unfolding first
+  pub same_loss : (bytes : List ℕ) → length bytes ≡ place_count G → loss_of r bytes ≡ Ok (loss_in N (set_of bytes) s.losses)
+  unfolding first given
   same_loss bytes e = told_loss bytes ∙ rw (eq-eqb (length bytes) (place_count G) e)
 
   -- ---- flow
@@ -181,11 +184,11 @@ module _ {scenario : Site} {s : State} {r : Record} (h : Carries scenario s r) w
     later = (length_out dt, 7) ∷ (unstable N dt, 8) ∷ []
 
     pub told_flow : flow_of r a b dt
-        ≡ amount_of (first ((not (leads G a b || leads G b a), 12) ∷ (length_out dt, 7) ∷ (unstable N dt, 8) ∷ [])) (water_from G s.losses dt a b)
-    unfolding flow_of amount_of first joined later
+        ≡ given (first ((not (leads G a b || leads G b a), 12) ∷ (length_out dt, 7) ∷ (unstable N dt, 8) ∷ [])) (water_from G s.losses dt a b)
+    unfolding flow_of first joined later
     told_flow =
         rw (h.valid, same_leads a b, same_leads b a, network_is h, h.state)
-        (given_same amount_of (λ k x y. refl) (first ((not joined, 12) ∷ later)) (λ e. same_water_lem dt a b (not-false joined (passed (not joined) 11 later e).0)))
+        (given_same (first ((not joined, 12) ∷ later)) (λ e. same_water_lem dt a b (not-false joined (passed (not joined) 11 later e).0)))
 
   -- ---- deep cells
 
@@ -208,13 +211,13 @@ module _ {scenario : Site} {s : State} {r : Record} (h : Carries scenario s r) w
 
   -- ---- compared
 
-  pub told_same : {t : Record} → r ≡ t → (q : Record) → same_of r q ≡ sameness_of (first ((not (valid q), 14) ∷ [])) (same_record t q)
+  pub told_same : {t : Record} → r ≡ t → (q : Record) → same_of r q ≡ given (first ((not (valid q), 14) ∷ [])) (same_record t q)
   unfolding same_of first
-  told_same e q = rw h.valid (ap (λ t. sameness_of (first ((not (valid q), 14) ∷ [])) (same_record t q)) e)
+  told_same e q = rw h.valid (ap (λ t. given (first ((not (valid q), 14) ∷ [])) (same_record t q)) e)
 
-  pub told_same_as : {t : Record} → r ≡ t → (q : Record) → same_of q r ≡ sameness_of (first ((not (valid q), 14) ∷ [])) (same_record q t)
+  pub told_same_as : {t : Record} → r ≡ t → (q : Record) → same_of q r ≡ given (first ((not (valid q), 14) ∷ [])) (same_record q t)
   unfolding same_of first
-  told_same_as e q = rw h.valid (ap (λ t. sameness_of (first ((not (valid q), 14) ∷ [])) (same_record q t)) e)
+  told_same_as e q = rw h.valid (ap (λ t. given (first ((not (valid q), 14) ∷ [])) (same_record q t)) e)
 
   -- ---- head loss
 
@@ -248,9 +251,9 @@ module _ {scenario : Site} {s : State} {r : Record} (h : Carries scenario s r) w
         (omega (arith, leb-true 1 layer t.0, leb-true layer scenario.layers t.1), t.2)
 
     pub told_head_loss : head_loss_of r layer dt
-        ≡ loss_answer_of (first ((not (is_screened_layer G layer), 12) ∷ (length_out dt, 7) ∷ (unstable N dt, 8) ∷ [])) (losses_at scenario (λ i. inflow_of (water_into G s.losses dt i) dt) (layer - 1))
-    unfolding head_loss_of loss_answer_of refused
-    told_head_loss = rw (refused_is, h.state) (given_same loss_answer_of (λ k x y. refl) refused (λ e. same_losses dt (layer - 1) (named_layer e).0 (named_layer e).1))
+        ≡ given (first ((not (is_screened_layer G layer), 12) ∷ (length_out dt, 7) ∷ (unstable N dt, 8) ∷ [])) (losses_at scenario (λ i. inflow_of (water_into G s.losses dt i) dt) (layer - 1))
+    unfolding head_loss_of refused
+    told_head_loss = rw (refused_is, h.state) (given_same refused (λ e. same_losses dt (layer - 1) (named_layer e).0 (named_layer e).1))
 
   -- ---- what would hold back a step
 

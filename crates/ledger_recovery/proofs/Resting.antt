@@ -4,6 +4,7 @@
 --     lost_is                 the losses of its well and cells, and its inflow, are together its pumped total
 --     no_intake               10 refuses no step at rate 0 on it
 --     rest_each, rest_all     what each call of a list leaves, and what all of them do
+use Rattle.std.specs.Prelude.{Ok, Err}
 use mathlib.Core.Path.{◌≡◌, refl, sym, ap, subst, ◌∙◌}
 use mathlib.Core.Bool.{Bool, true, false, not}
 use mathlib.Core.List.{List, [], ◌∷◌, Memᴰ}
@@ -13,7 +14,9 @@ use native.Mathlib.Omega.{arith}
 use lib.Dec.{ltb}
 use lib.IntN.{ℤ, pos, neg_ℤ, nat_abs, ◌+ℤ◌, ◌-ℤ◌, +ℤ_idl, neg_ℤ-+ℤ, neg_ℤ-neg_ℤ, +ℤ-neg_ℤ_cancel}
 use lib.Signed.{lt_z, ◌≤ℤ◌, ≤ℤ_refl, lt_z_yes, clash_ℤ}
-use Rattle.refusals.specs.Refusals.{outcome_of}
+use Rattle.refusals.specs.declared.Refusal.{Refusal}
+use Rattle.refusals.specs.Refusals.{refusal, given}
+use Rattle.refusals.specs.Laws.{same_number}
 use borrow.Author.Tests.{eqb-true, lt-ltb, not-false}
 use Rattle.laws.specs.All.{and_left, and_right}
 use Rattle.laws.specs.Integer.{regroup, natural, pos_≤ℤ, ≤ℤ_trans, ≤ℤ_antisym, larger_bounds}
@@ -32,7 +35,7 @@ use Rattle.validity.specs.Laws.{Valid, valid_record, valid_proper}
 use Rattle.step_rules.specs.Step.{with_state, step_refusal, step_of}
 use Rattle.step_rules.specs.Laws.{step_outcome, same_grid, taken, state_is, step_valid}
 use Rattle.readings.specs.declared.Place.{Place}
-use Rattle.readings.specs.Readings.{amount_of, balance_of, number_of, totals_in, drawdown_of, budget_of}
+use Rattle.readings.specs.Readings.{number_of, totals_in, drawdown_of, budget_of}
 use Rattle.readings.specs.Laws.{named-place, read_depth}
 use Rattle.ledger.specs.Calls.{Call, step, read, left, left_by_all}
 use Rattle.ledger_recovery.specs.Recovery.{is_at_rest, largest, Reads, Between, Each, nothing, further, lost}
@@ -78,19 +81,20 @@ module _ (r : Record) (ok : valid r ≡ true) where
   proper = valid_proper r known
 
   -- what is read of it
-  pub read_deepest : (p : Place) × (drawdown_of r p ≡ amount_of 0 (largest r))
-  unfolding largest
-  read_deepest = let d = largest-named (grid_of r) (state_of r).losses in (d.0, read_depth r ok d.0 d.1 ∙ ap (amount_of 0) d.2)
+  pub read_deepest : (p : Place) × (drawdown_of r p ≡ Ok (largest r))
+  unfolding largest given
+  read_deepest = let d = largest-named (grid_of r) (state_of r).losses in (d.0, read_depth r ok d.0 d.1 ∙ ap Ok d.2)
 
   pub below-largest : (p : ℕ) → p < (N r).places → D r p ≤ℤ largest r
   unfolding largest network_of
   below-largest = largest_above (grid_of r) (state_of r).losses
 
-  pub read_budget : budget_of r ≡ balance_of 0 (totals_in (N r) (state_of r) r.mark)
-  unfolding budget_of first
+  pub read_budget : budget_of r ≡ Ok (totals_in (N r) (state_of r) r.mark)
+  unfolding budget_of first given
   read_budget = rw ok
 
   unfoldable pub reads : Reads r
+  unfolding given
   reads = record {
     totals = totals_in (N r) (state_of r) r.mark;
     budget = read_budget;
@@ -140,9 +144,11 @@ module _ (r : Record) (ok : valid r ≡ true) where
       by_tests false false true false false true h n = omega arith
       by_tests false false true false false false h n = omega arith
 
-  pub no_intake : (dt : ℕ) → (step_of r 0 dt).outcome ≡ outcome_of 10 → ⊥
-  unfolding outcome_of
-  no_intake dt e = not_10 0 dt refl (refusal_of (step_refusal r 0 dt) 10 (sym (step_outcome r 0 dt) ∙ e)).0
+  pub no_intake : (dt : ℕ) → (step_of r 0 dt).outcome ≡ Err Refusal.PastIntake → ⊥
+  unfolding refusal
+  no_intake dt e =
+      let number = refusal_of (step_refusal r 0 dt) Refusal.PastIntake (sym (step_outcome r 0 dt) ∙ e) in
+      not_10 0 dt refl (same_number (step_refusal r 0 dt) 10 (omega (arith, number.1)) (omega arith) (omega arith) number.0)
 
 -- ---- one call at rest
 

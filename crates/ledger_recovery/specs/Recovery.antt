@@ -1,9 +1,9 @@
 -- Levels after the pump stops (document 02, N14): what holds of a record that 14 does not refuse and of a list of calls on it in which every step has
 -- rate 0, in what the readings give.
 -- Units: D and mark µm; losses and totals nl; Δt µs.
-use Rattle.std.specs.Prelude.{◌≡◌, Bool, true, ℕ, ℤ, neg_ℤ, ◌+ℤ◌, ◌-ℤ◌, eqb, ◌≤ℤ◌}
+use Rattle.std.specs.Prelude.{◌≡◌, Bool, true, ℕ, ℤ, neg_ℤ, ◌+ℤ◌, ◌-ℤ◌, eqb, ◌≤ℤ◌, Ok, Err}
 use mathlib.Core.List.{List, [], ◌∷◌, map, flat_map}
-use Rattle.refusals.specs.Refusals.{outcome_of}
+use Rattle.refusals.specs.declared.Refusal.{Refusal}
 use Rattle.laws.specs.Lists.{larger}
 use Rattle.network.specs.Network.{drawdown}
 use Rattle.network.specs.Grid.{Grid, stored_columns, layers_of, place, network_of}
@@ -12,7 +12,7 @@ use Rattle.record.specs.Record.{grid_of, state_of}
 use Rattle.step_rules.specs.Step.{step_of}
 use Rattle.readings.specs.declared.Place.{Place}
 use Rattle.readings.specs.declared.Totals.{Totals}
-use Rattle.readings.specs.Readings.{amount_of, balance_of, is_named, drawdown_of, budget_of}
+use Rattle.readings.specs.Readings.{is_named, drawdown_of, budget_of}
 use Rattle.ledger.specs.Calls.{Call, step, read, left, left_by_all}
 
 -- a call at rest: a step at rate 0, whatever its Δt, or a reading
@@ -43,10 +43,10 @@ largest r = largest_in (grid_of r) (state_of r).losses
 pub record Reads (r : Record) : Type 0 where
   -- the budget reading gives these totals
   pub totals : Totals
-  pub budget : budget_of r ≡ balance_of 0 totals
+  pub budget : budget_of r ≡ Ok totals
   -- the drawdown reading gives at every place a drawdown that is at most the largest, and at one place the largest
-  pub depth : (p : Place) → is_named (grid_of r) p ≡ true → (D : ℤ) × (drawdown_of r p ≡ amount_of 0 D) × (D ≤ℤ largest r)
-  pub deepest : (p : Place) × (drawdown_of r p ≡ amount_of 0 (largest r))
+  pub depth : (p : Place) → is_named (grid_of r) p ≡ true → (D : ℤ) × (drawdown_of r p ≡ Ok D) × (D ≤ℤ largest r)
+  pub deepest : (p : Place) × (drawdown_of r p ≡ Ok (largest r))
 
 -- ---- from one call to the next
 
@@ -79,4 +79,4 @@ pub record Recovers (r : Record) (calls : List Call) : Type 0 where
   pub stored : lost ended.totals -ℤ lost begun.totals ≡ neg_ℤ (ended.totals.inflow -ℤ begun.totals.inflow)
   -- with the mark in the record (N1): it stays, and 10 refuses no further step at rate 0
   pub mark : ended.totals.mark ≡ begun.totals.mark
-  pub intake : (dt : ℕ) → (step_of (left_by_all r calls) 0 dt).outcome ≡ outcome_of 10 → ⊥
+  pub intake : (dt : ℕ) → (step_of (left_by_all r calls) 0 dt).outcome ≡ Err Refusal.PastIntake → ⊥

@@ -3,7 +3,7 @@
 --     counted, network_is    so the scenario's counts are within their limits, and the network of r is the scenario's
 --     screen_is, ..          and so is C of each face: of the well and a screened layer, of two columns (across_is), of two layers (down_is)
 --     begun                  the record that start gives for an accepted text carries the scenario at rest; begun_record: that record whole
-use Rattle.std.specs.Prelude.{◌≡◌, refl, Bool, true, not, ◌&&◌, List, ℕ, suc, ◌+◌, ◌≤◌, ◌<◌, eqb, pos, length, drop}
+use Rattle.std.specs.Prelude.{◌≡◌, refl, Bool, true, not, ◌&&◌, List, ℕ, suc, ◌+◌, ◌≤◌, ◌<◌, eqb, pos, length, drop, Ok}
 use Rattle.std.proofs.Math.Path.{sym}
 use Rattle.std.proofs.Common.{ap, ◌∙◌, zero-le, arith, length-drop, get_or-drop}
 use Rattle.std.proofs.Math.Bool.{cond, or-true}
@@ -19,7 +19,6 @@ use Rattle.laws.specs.Pointwise.{every_from}
 use Rattle.laws.specs.Refusal.{passed, first_none, first-after}
 use Rattle.laws.specs.Rows.{both_hold, all_from}
 use Rattle.limits.specs.Limits.{layer_places, column_places, coefficient_places, cell_places}
-use Rattle.refusals.specs.Refusals.{outcome_of}
 use Rattle.network.specs.Network.{Network, State, at_rest}
 use Rattle.network.specs.Grid.{network_of}
 use Rattle.network.proofs.laws.Preserve.{depth-at_rest, kept_at_rest}
@@ -169,13 +168,13 @@ module _ {scenario : Site} {s : State} {r : Record} (h : Carries scenario s r) w
   pub down_is : (i j : ℕ) → suc i < scenario.layers → 1 ≤ j → j < scenario.columns → (grid_of r).down i j ≡ down_of scenario i j
   down_is i j k one m = ap (λ g. g.down i j) slotted_grid ∙ down_at _ scenario (site.counts_hold_lem scenario counted) i j k one m
 
-module _ (text : List ℕ) (e : (start_of text).outcome ≡ outcome_of 0) where
+module _ (text : List ℕ) (e : (start_of text).outcome ≡ Ok tt) where
   text_taken : text_refusal text ≡ 0
-  unfolding start_of outcome_of
+  unfolding start_of
   text_taken = taken_of (text_refusal text) (sym (outcome_of_lem (text_refusal text) zero_record (start_record (scenario_of text))) ∙ e)
 
   pub begun : Carries (scenario_of text) (at_rest (network_of (scenario_grid (scenario_of text)))) (start_of text).«record»
-  unfolding start_of answer_of outcome_of start_record scenario_of
+  unfolding start_of answer_of start_record scenario_of
   begun =
       let p = text_passed text text_taken in
       rw text_taken (record {

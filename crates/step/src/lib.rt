@@ -37,22 +37,19 @@ pub fn repeat(record: Record, rate: u64, dt: u64, steps: u64) -> Repeated
         return unmoved(Err(Refusal::Unstable), record);
     }
     let ran = step_run::run(record, rate, dt, steps);
-    let outcome = ran.outcome;
-    let course = ran.course;
+    // no plainer as `losses: ran.losses`: the check takes no array field straight into a literal
     let losses = ran.losses;
-    let well_after = course.well_loss;
-    let inflow_after = course.inflow;
-    let mark_after = course.mark;
-    let mut next = record;
-    next.losses = losses;
-    next.well_loss = well_after;
-    next.pumped = course.pumped;
-    next.inflow = inflow_after;
-    next.time = course.time;
-    next.mark = mark_after;
     Repeated {
-        outcome,
-        record: next,
+        outcome: ran.outcome,
+        record: Record {
+            losses,
+            well_loss: ran.course.well_loss,
+            pumped: ran.course.pumped,
+            inflow: ran.course.inflow,
+            time: ran.course.time,
+            mark: ran.course.mark,
+            ..record
+        },
         taken: ran.taken,
     }
 }
@@ -62,10 +59,8 @@ pub fn step(record: Record, rate: u64, dt: u64) -> Answer
     ensures { result ≡ step_of «record» rate dt }
 {
     let repeated = repeat(record, rate, dt, 1);
-    let outcome = repeated.outcome;
-    let after = repeated.record;
     Answer {
-        outcome,
-        record: after,
+        outcome: repeated.outcome,
+        record: repeated.record,
     }
 }

@@ -1,9 +1,9 @@
 -- Demand 3 over every run.
+use Rattle.std.specs.Prelude.{Ok}
 use mathlib.Core.Path.{◌≡◌, ap, ◌∙◌}
 use mathlib.Core.List.{List, []}
 use Prim.Native.Nat.{ℕ}
 use lib.IntN.{pos, ◌-ℤ◌, +ℤ_idl}
-use Rattle.refusals.specs.Refusals.{outcome_of}
 use Rattle.laws.specs.Lists.{ifℤ}
 use Rattle.network.specs.Network.{at_rest, loss_in}
 use Rattle.network.specs.Grid.{network_of}
@@ -11,7 +11,7 @@ use Rattle.network.proofs.laws.Bounds.{depth_natural}
 use Rattle.network.proofs.laws.Preserve.{loss_in-at_rest}
 use Rattle.record.specs.declared.Record.{Record}
 use Rattle.record.specs.Record.{grid_of, state_of}
-use Rattle.readings.specs.Readings.{amount_of, number_of, set_of}
+use Rattle.readings.specs.Readings.{number_of, set_of}
 use Rattle.readings.specs.Laws.{named-place}
 use Rattle.validity.specs.Laws.{Valid, valid_record, valid_proper}
 use Rattle.scenario.specs.Scenario.{scenario_of, start_of}
@@ -53,13 +53,13 @@ module _ (text : List ℕ) (r : Record) (h : Runs (scenario_of text) [] (at_rest
     accepted = end.carries.valid;
     mark = mark_is end;
     budget = same_budget end.carries (mark_is end);
-    loss = λ bytes e. same_loss end.carries bytes e ∙ ap (amount_of 0) (set_balance bytes);
+    loss = λ bytes e. same_loss end.carries bytes e ∙ ap Ok (set_balance bytes);
     depth = same_depth end.carries;
     natural = λ p e. rw (same_network, end.carries.state) at (depth_natural _ (valid_proper _ known) (state_of (left_by_all r calls)) known.kept (number_of (grid_from text) p));
     within = λ p e. rw (same_network, end.carries.state) at (known.marked.depths (number_of (grid_from text) p) (rw same_network (named-place (grid_from text) p e)));
   }
 
-at_start : (text : List ℕ) → (start_of text).outcome ≡ outcome_of 0 → Runs (scenario_of text) [] (at_rest (network_from text)) (start_of text).«record»
+at_start : (text : List ℕ) → (start_of text).outcome ≡ Ok tt → Runs (scenario_of text) [] (at_rest (network_from text)) (start_of text).«record»
 at_start text taken = record { carries = begun text taken; steps = none; whole = begun_record text taken ∙ start_whole (scenario_of text) }
 
 pub returns : goal.returns

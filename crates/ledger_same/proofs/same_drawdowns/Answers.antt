@@ -1,10 +1,13 @@
 -- Two records of which `same` says yes are equal, and so are the drawdowns read of them; and document 01's rule says yes exactly where these are.
+use Rattle.std.specs.Prelude.{Ok}
 use mathlib.Core.Path.{◌≡◌, refl, sym, ap, subst, ◌∙◌}
 use mathlib.Core.Bool.{Bool, true, false, ◌&&◌, ◌||◌, false≢true}
 use Prim.Native.Nat.{ℕ, ◌<◌}
 use borrow.Author.Tests.{eqb-true, eq-eqb}
 use lib.Dec.{eqb}
 use lib.IntN.{ℤ}
+use Rattle.refusals.specs.Refusals.{given}
+use Rattle.refusals.specs.Laws.{value_given}
 use Rattle.laws.specs.All.{all_at}
 use Rattle.laws.specs.Lists.{first}
 use Rattle.laws.specs.Rows.{both_hold, three_hold, all_from}
@@ -14,8 +17,8 @@ use Rattle.record.specs.declared.Record.{Record}
 use Rattle.record.specs.Record.{grid_of, state_of}
 use Rattle.validity.specs.Validity.{equalℤ, valid}
 use Rattle.validity.specs.Laws.{equal, itself}
-use Rattle.readings.specs.Readings.{sameness_of, amount_of, is_named, number_of}
-use Rattle.readings.specs.Laws.{given_amount, named-place, place-named, equal_names, equal_numbers, read_depth}
+use Rattle.readings.specs.Readings.{is_named, number_of}
+use Rattle.readings.specs.Laws.{named-place, place-named, equal_names, equal_numbers, read_depth}
 use Rattle.readings.proofs.SameLaws.{same_answer}
 use Rattle.read_same.specs.Same.{Compares}
 use Rattle.read_same.specs.Laws.{compared}
@@ -36,7 +39,7 @@ alike r q = eqb (grid_of r).layers (grid_of q).layers && eqb (grid_of r).columns
 module _ (r q : Record) (ok : valid r ≡ true) (fine : valid q ≡ true) where
   -- the test holds: so counts and readings are equal
   from_test : alike r q ≡ true → SameDrawdowns r q
-  unfolding same_depths grid_of network_of
+  unfolding same_depths grid_of network_of given
   from_test e =
       let parts = three_hold (eqb (grid_of r).layers (grid_of q).layers) (eqb (grid_of r).columns (grid_of q).columns) (same_depths r q) e in
       let layers = eqb-true _ _ parts.0 in
@@ -49,13 +52,13 @@ module _ (r q : Record) (ok : valid r ≡ true) (fine : valid q ≡ true) where
             let here = equal_names (grid_of r) (grid_of q) layers columns p ∙ there in
             let depth = equal _ _ (all_at _ (place_count (grid_of r)) (number_of (grid_of r) p) parts.2 (named-place (grid_of r) p here)) in
             read_depth r ok p here
-            ∙ ap (amount_of 0) (depth ∙ ap (D q) (equal_numbers (grid_of r) (grid_of q) layers columns p))
+            ∙ ap Ok (depth ∙ ap (D q) (equal_numbers (grid_of r) (grid_of q) layers columns p))
             ∙ sym (read_depth q fine p there);
       }
 
   -- they are equal: so the test holds
   to_test : SameDrawdowns r q → alike r q ≡ true
-  unfolding same_depths grid_of network_of
+  unfolding same_depths grid_of network_of given
   to_test s =
       both_hold (both_hold (eq-eqb _ _ s.layers) (eq-eqb _ _ s.columns)) (all_from _ (place_count (grid_of r)) depth)
     where
@@ -64,7 +67,7 @@ module _ (r q : Record) (ok : valid r ≡ true) (fine : valid q ≡ true) where
           let p = place-named (grid_of r) n h in
           let there = sym (equal_names (grid_of r) (grid_of q) s.layers s.columns p.0) ∙ p.1 in
           let read = sym (read_depth r ok p.0 p.1) ∙ s.depths p.0 (rw p.1 refl) ∙ read_depth q fine p.0 there in
-          let same = ap (D r) (sym p.2) ∙ (given_amount 0 _ _ read).1 ∙ ap (D q) (sym (equal_numbers (grid_of r) (grid_of q) s.layers s.columns p.0) ∙ p.2) in
+          let same = ap (D r) (sym p.2) ∙ (value_given 0 _ read).1 ∙ ap (D q) (sym (equal_numbers (grid_of r) (grid_of q) s.layers s.columns p.0) ∙ p.2) in
           subst (λ x. equalℤ (D r n) x ≡ true) same (itself (D r n))
 
 rule : (r q : Record) → Compares r q (SameDrawdowns r q) (same_drawdowns_of r q)
@@ -75,14 +78,15 @@ rule r q = compared r q (SameDrawdowns r q) (alike r q) (from_test r q) (λ ok f
 drawdowns_itself : (r : Record) → SameDrawdowns r r
 drawdowns_itself r = record { layers = refl; columns = refl; depths = λ p e. refl }
 
-yes_itself : (r : Record) → valid r ≡ true → same_drawdowns_of r r ≡ sameness_of 0 true
-unfolding same_drawdowns_of first
-yes_itself r ok = rw ok (ap (sameness_of 0) (to_test r r ok ok (drawdowns_itself r)))
+yes_itself : (r : Record) → valid r ≡ true → same_drawdowns_of r r ≡ Ok true
+unfolding same_drawdowns_of first given
+yes_itself r ok = rw ok (ap Ok (to_test r r ok ok (drawdowns_itself r)))
 
 pub returns : goal.returns
+unfolding given
 returns c = (
   λ one other same.
       let e = same_answer one other same in
-      subst (λ q. SameDrawdowns one q × (same_drawdowns_of one q ≡ sameness_of 0 true)) e.2 (drawdowns_itself one, yes_itself one e.0),
+      subst (λ q. SameDrawdowns one q × (same_drawdowns_of one q ≡ Ok true)) e.2 (drawdowns_itself one, yes_itself one e.0),
   rule,
 )
