@@ -15,7 +15,7 @@ pub fn deeper_than(limit: u64, storage: u64, loss: i64) -> bool
     requires { (limit ≤ drawdown_limit) × (0 < storage) × (pos 0 ≤ℤ loss) }
     ensures { result ≡ deeper limit storage loss }
 {
-    product_le(limit + 1, storage, loss.unsigned_abs(), 1000000)
+    product_le(limit + 1, storage, loss as u64, 1000000)
 }
 
 // A cell's slot: no D past the mark, µm, nor in layer 1 past 1000×b_1.
