@@ -4,12 +4,7 @@
 --     steps_course    only the course and the losses of a record change
 --     onward-refused  what follows a refusal
 --     ran_none, ran_taken, ran_refused   the steps of a run, one after the other
-use Rattle.std.specs.Prelude.{◌≡◌, List, ℤ, Ok, Err}
-use Rattle.std.proofs.Math.Path.{refl, ap}
-use Rattle.std.proofs.Common.{sym, subst, ◌∙◌}
-use Rattle.std.proofs.Math.Bool.{true}
-use Prim.Native.Nat.{ℕ, zero, suc, ◌+◌, ◌-◌, ◌<◌}
-use native.Mathlib.Omega.{arith}
+use Rattle.std.proofs.Common.{◌≡◌, List, ℤ, Ok, Err, refl, ap, sym, subst, ◌∙◌, true, ℕ, zero, suc, ◌+◌, ◌-◌, ◌<◌, arith}
 use Rattle.refusals.specs.declared.Refusal.{Refusal}
 use Rattle.refusals.specs.Refusals.{given, outcome_of}
 use Rattle.network.specs.Network.{moved, stable}
@@ -115,7 +110,7 @@ module _ (rate dt : ℕ) where
                 let j : taken + 1 ≡ suc taken = omega arith in
                 rw (k, j, ap (λ x. x.«record») e) (sym (onward_taken taken r (steps_of rate dt (suc taken) n (step_of r rate dt).«record») (step_refusal r rate dt) (taken_of _ (number_is ∙ t))))
 
-        pub ran_refused : course_of (with_course r v.course ls) ≡ v.course → (k : Refusal) → v.outcome ≡ Err k → record { outcome = v.outcome; course = v.course; losses = ls; taken = taken } ≡ ran_of (steps_of rate dt taken n r)
+        pub ran_refused : course_of (with_course r v.course ls) ≡ v.course → (k : Refusal) → v.outcome ≡ Err k → record { outcome = Err k; course = v.course; losses = ls; taken = taken } ≡ ran_of (steps_of rate dt taken n r)
         unfolding steps_of ran_of repeated_of
         ran_refused c k t = by_count n h
           where
@@ -125,10 +120,10 @@ module _ (rate dt : ℕ) where
             same : with_course r v.course ls ≡ r
             same = ap (λ x. x.«record») e ∙ step_kept r rate dt some
 
-            by_count : (n : ℕ) → 0 < n → record { outcome = v.outcome; course = v.course; losses = ls; taken = taken } ≡ ran_of (steps_of rate dt taken n r)
+            by_count : (n : ℕ) → 0 < n → record { outcome = Err k; course = v.course; losses = ls; taken = taken } ≡ ran_of (steps_of rate dt taken n r)
             by_count zero h = absurd (omega arith)
             by_count (suc n) h =
-                ap (λ x. record { outcome = v.outcome; course = x; losses = ls; taken = taken }) (sym c)
-                ∙ ap (λ q. record { outcome = v.outcome; course = course_of q; losses = q.losses; taken = taken }) same
-                ∙ ap (λ o. record { outcome = o; course = course_of r; losses = r.losses; taken = taken }) (sym number_is)
+                ap (λ x. record { outcome = Err k; course = x; losses = ls; taken = taken }) (sym c)
+                ∙ ap (λ q. record { outcome = Err k; course = course_of q; losses = q.losses; taken = taken }) same
+                ∙ ap (λ o. record { outcome = o; course = course_of r; losses = r.losses; taken = taken }) (sym (number_is ∙ t))
                 ∙ ap ran_of (sym (onward-refused taken r (steps_of rate dt (suc taken) n (step_of r rate dt).«record») (step_refusal r rate dt) some))

@@ -13,7 +13,8 @@ use limits::{CELL_PLACES, COLUMN_PLACES};
 use record::Record;
 use refusals::Refusal;
 use step_judged::Course;
-use step_sweep::Terms;
+use step_losses::Faces;
+use step_sweep::{Terms, Workspace};
 
 // From so many steps on it pays to work out the multipliers.
 const PAYS: u64 = 8;
@@ -44,38 +45,33 @@ pub fn terms_of(record: Record, rate: u64, dt: u64) -> Terms
     ensures value { result ≡ terms_of «record» result.well_multiplier rate dt }
     ensures stands { Stands result.well_multiplier result.well_storage }
 {
-    let site = record.site;
-    let well_storage = record.well_storage;
     Terms {
-        layers: site.layers as usize,
-        columns: site.columns as usize,
-        thickness: site.thickness[0],
-        kv1: site.kv[0],
-        b2: site.thickness[1],
-        kv2: site.kv[1],
-        intake: site.intake,
-        well_storage,
-        well_multiplier: step_drawdowns::multiplier(well_storage),
+        layers: record.site.layers as usize,
+        columns: record.site.columns as usize,
+        thickness: record.site.thickness[0],
+        kv1: record.site.kv[0],
+        b2: record.site.thickness[1],
+        kv2: record.site.kv[1],
+        intake: record.site.intake,
+        well_storage: record.well_storage,
+        well_multiplier: step_drawdowns::multiplier(record.well_storage),
         rate,
         dt,
     }
 }
 
 // Where a record's run has come to.
-fn course_of(record: Record) -> Course
-    requires { valid «record» ≡ true }
-    ensures { result ≡ course_of «record» }
+fn course_of(rec: &Record) -> Course
+    requires { valid rec.now ≡ true }
+    ensures { result ≡ course_of rec.now }
 {
-    let well_loss = record.well_loss;
-    let inflow = record.inflow;
-    let mark = record.mark;
     Course {
-        well_loss,
-        well_depth: step_drawdowns::drawdown(well_loss, record.well_storage),
-        pumped: record.pumped,
-        inflow,
-        time: record.time,
-        mark,
+        well_loss: rec.well_loss,
+        well_depth: step_drawdowns::drawdown(rec.well_loss, rec.well_storage),
+        pumped: rec.pumped,
+        inflow: rec.inflow,
+        time: rec.time,
+        mark: rec.mark,
     }
 }
 
@@ -85,51 +81,45 @@ pub fn run(record: Record, rate: u64, dt: u64, steps: u64) -> Ran
     ensures { result ≡ ran_of (steps_of rate dt 0 steps «record») }
 {
     let terms = terms_of(record, rate, dt);
-    let site = record.site;
-    let areas = coefficient_cells::areas_of(site);
+    let areas = coefficient_cells::areas_of(record.site);
     let multipliers = step_drawdowns::multipliers(
         &record.storages,
         slots_built(steps, terms.layers),
     );
+    let mut work = Workspace {
+        faces: Faces {
+            depths: [0; CELL_PLACES],
+            conductances: record.horizontal,
+            down: [0; CELL_PLACES],
+        },
+        before: [0; CELL_PLACES],
+    };
     let mut losses = record.losses;
-    let mut depths: [u64; CELL_PLACES] = [0; CELL_PLACES];
-    let mut conductances = record.horizontal;
-    let mut down: [i64; CELL_PLACES] = [0; CELL_PLACES];
-    let mut before: [i64; CELL_PLACES] = [0; CELL_PLACES];
-    let mut course = course_of(record);
-    let mut taken = 0;
-    while taken < steps {
+    let mut course = course_of(&record);
+    for taken in 0..steps {
         let advanced = step_judged::advance(
             terms,
             course,
+            &record,
             &areas,
-            &record.screen,
-            &record.horizontal,
-            &record.vertical,
-            &record.storages,
             &multipliers,
             &mut losses,
-            &mut depths,
-            &mut conductances,
-            &mut down,
-            &mut before,
+            &mut work,
         );
-        let outcome = advanced.outcome;
         course = advanced.course;
-        if let Err(_) = outcome {
+        if let Err(refusal) = advanced.outcome {
             return Ran {
-                outcome,
+                outcome: Err(refusal),
                 course,
                 losses,
                 taken,
             };
         }
-        taken += 1;
     }
     Ran {
         outcome: Ok(()),
         course,
         losses,
-        taken,
+        taken: steps,
     }
 }

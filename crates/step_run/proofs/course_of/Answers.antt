@@ -6,5 +6,5 @@ use Rattle.step_run.proofs.course_of.Goals as goal
 
 pub drawdown-requires : goal.drawdown-requires
 drawdown-requires c =
-    let fits : SFits w64 c.args.«record».well_loss = search rules in
-    rw (to_z-of_z fits) (well_ask c.args.«record» (valid_record _ c.requires))
+    let fits : SFits w64 c.args.rec.now.well_loss = search rules in
+    rw (to_z-of_z fits) (well_ask c.args.rec.now (valid_record _ c.requires))

@@ -1,6 +1,5 @@
 -- A step more leaves what all the steps come to as it is; a refusal ends them there.
-use Rattle.std.specs.Prelude.{Ok}
-use Rattle.std.proofs.Common.{◌≡◌, refl, sym, ap, ◌∙◌, ◌+◌, ◌-◌, arith}
+use Rattle.std.proofs.Common.{Ok, ◌≡◌, refl, sym, ap, ◌∙◌, ◌+◌, ◌-◌, arith}
 use Rattle.validity.specs.Laws.{valid_record, valid_limits}
 use Rattle.step_rules.specs.Ready.{with_course}
 use Rattle.step_rules.proofs.Laws.{few_layers, asks_terms, stepped, course_kept, scratch_zeros}
@@ -33,7 +32,7 @@ returns-in-Err c =
     let i = c.loop-taken.invariant in
     let moved = stepped was c.args.rate c.args.dt i.1 c.terms_of-terms.ensures.value c.areas_of-areas.ensures i.2 c.advance-advanced.ensures in
     let kept = course_kept was c.args.rate c.args.dt i.1 c.terms_of-terms.ensures.value c.areas_of-areas.ensures i.2 c.advance-advanced.ensures in
-    ran_refused c.args.rate c.args.dt was c.advance-advanced.result moved c.loop-taken.taken (c.args.steps - c.loop-taken.taken) (omega (arith, c.loop-taken-test.true)) kept _ c.in-Err.is
+    ran_refused c.args.rate c.args.dt was c.advance-advanced.result moved c.loop-taken.taken (c.args.steps - c.loop-taken.taken) (omega arith) kept _ c.in-Err.is
     ∙ ap ran_of i.3
 
 pub loop-taken-preserved : goal.loop-taken-preserved
@@ -46,12 +45,14 @@ loop-taken-preserved c =
       c.advance-advanced.ensures.scratch,
       ready_next c.args.rate c.args.dt was c.advance-advanced.result moved i.1,
       kept,
-      rw left (ran_taken c.args.rate c.args.dt was c.advance-advanced.result moved c.loop-taken.taken (c.args.steps - c.loop-taken.taken) (omega (arith, c.loop-taken-test.true)) c.in_default.is ∙ i.3),
+      rw left (ran_taken c.args.rate c.args.dt was c.advance-advanced.result moved c.loop-taken.taken (c.args.steps - c.loop-taken.taken) (omega arith) c.in_default.is ∙ i.3),
     )
 
 pub returns : goal.returns
 returns c =
     let i = c.loop-taken.invariant in
-    ap (λ x. record { outcome = Ok tt; course = x; losses = c.loop-taken.losses; taken = c.loop-taken.taken }) (sym i.2)
-    ∙ sym (ran_none c.args.rate c.args.dt (with_course c.args.«record» c.loop-taken.course c.loop-taken.losses) c.loop-taken.taken (c.args.steps - c.loop-taken.taken) (omega (arith, c.loop-taken-test.false)))
+    let all : c.args.steps ≡ c.loop-taken.taken = omega arith in
+    ap (λ n. record { outcome = Ok tt; course = c.loop-taken.course; losses = c.loop-taken.losses; taken = n }) all
+    ∙ ap (λ x. record { outcome = Ok tt; course = x; losses = c.loop-taken.losses; taken = c.loop-taken.taken }) (sym i.2)
+    ∙ sym (ran_none c.args.rate c.args.dt (with_course c.args.«record» c.loop-taken.course c.loop-taken.losses) c.loop-taken.taken (c.args.steps - c.loop-taken.taken) (omega arith))
     ∙ ap ran_of i.3

@@ -7,10 +7,7 @@ use Rattle.step_run.proofs.run.Given as goal
 
 abbrev pub invariant-loop-taken : goal.invariant-loop-taken
 invariant-loop-taken l =
-    Scratch l.terms.layers l.terms.columns l.«record».horizontal l.depths l.conductances l.down l.before
+    Scratch l.terms.layers l.terms.columns l.«record».horizontal l.work.faces.depths l.work.faces.conductances l.work.faces.down l.work.before
     × Ready (with_course l.«record» l.course l.losses) l.rate l.dt
     × (course_of (with_course l.«record» l.course l.losses) ≡ l.course)
     × (steps_of l.rate l.dt l.taken (l.steps - l.taken) (with_course l.«record» l.course l.losses) ≡ steps_of l.rate l.dt 0 l.steps l.«record»)
-
-abbrev pub decreases-loop-taken : goal.decreases-loop-taken
-decreases-loop-taken l = l.steps - l.taken
