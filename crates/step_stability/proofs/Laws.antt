@@ -1,11 +1,5 @@
 -- Bounds on the sums of C.
-use mathlib.Core.Path.{◌≡◌, refl, sym}
-use mathlib.Core.Bool.{Bool, true, false, cond}
-use mathlib.Core.List.{List}
-use Prim.Native.Nat.{ℕ, ◌+◌, ◌/◌, ◌%◌, ◌-◌, ◌≤◌, ◌<◌, zero-le}
-use native.Mathlib.Omega.{arith}
-use lib.Dec.{eqb, ltb}
-use lib.ListN.{get_or}
+use Rattle.std.proofs.Common.{◌≡◌, refl, sym, Bool, true, false, cond, List, ℕ, ◌+◌, ◌/◌, ◌%◌, ◌-◌, ◌≤◌, ◌<◌, zero-le, arith, eqb, ltb, get_or}
 use Rattle.laws.specs.RowSums.{sum_more}
 use Rattle.laws.specs.Lists.{sumℕ, range}
 use Rattle.limits.specs.Limits.{conductance_limit}

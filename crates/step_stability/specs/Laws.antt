@@ -2,16 +2,8 @@
 --     steady_asks        no slot of a valid record's C is over the limit
 --     steady_valid       8 of a valid record
 --     cell_c, well_c     the sums of C by slot are those of the places; cell_s: so is S
-use Rattle.std.specs.Prelude.{◌≡◌, true, false, ◌||◌, eqb, ltb}
-use Rattle.std.proofs.Math.Path.{refl, sym, ap, ap₂, subst}
-use Rattle.std.proofs.Common.{◌∙◌}
-use Rattle.std.proofs.Math.Bool.{Bool}
-use Rattle.std.proofs.Math.Logic.{⊎_elim}
-use Prim.Native.Nat.{ℕ, zero, suc, ◌+◌, ◌*◌, ◌-◌, ◌/◌, ◌%◌, ◌^◌, ◌≤◌, ◌<◌}
-use native.Mathlib.Omega.{arith}
-use Rattle.std.proofs.Math.Dec.{leb}
-use Rattle.std.proofs.Math.ListN.{get_or}
-use borrow.Author.Tests.{eqb-true, ltb-true, lt-ltb, le-ltb, le-leb, lt-leb, ne_eqb, eq-eqb}
+use Rattle.std.proofs.Common.{◌≡◌, true, false, ◌||◌, eqb, ltb, refl, sym, ap, ap₂, subst, ◌∙◌, Bool, ⊎_elim, ℕ, zero, suc, ◌+◌, ◌*◌, ◌-◌, ◌/◌, ◌%◌, ◌^◌, ◌≤◌, ◌<◌, arith, leb, get_or, eqb-true, ltb-true, lt-ltb, le-ltb, le-leb, ne_eqb, eq-eqb}
+use borrow.Author.Tests.{lt-leb}
 use Rattle.laws.specs.Lists.{all_below, ifℕ, range}
 use Rattle.laws.specs.All.{all_at, and_left, and_right}
 use Rattle.laws.specs.Number.{below_or_not}

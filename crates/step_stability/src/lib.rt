@@ -2,7 +2,6 @@
 #![tactic(auto)]
 
 ghost use Rattle.std.specs.Prelude.{◌≡◌, true, ℕ, ◌<◌, ◌≤◌, get_or};
-ghost use Rattle.laws.specs.Lists.{all_below};
 ghost use Rattle.limits.specs.Limits.{conductance_limit};
 ghost use Rattle.network.specs.Network.{stable};
 ghost use Rattle.network.specs.Grid.{network_of};
@@ -70,28 +69,14 @@ fn cell_steady(rec: &Record, dt: u64, k: usize) -> bool
         || product_le(dt, cell_sum(rec, k), 1000000, rec.storages[k])
 }
 
-// 8 at the cells in the first n slots.
-fn cells_steady(n: usize, rec: &Record, dt: u64) -> bool
-    requires { (n ≤ 1000) × Limited rec.now.screen rec.now.horizontal rec.now.vertical }
-    ensures { result ≡ all_below n (cell_steady rec.now.site.columns rec.now.screen rec.now.horizontal rec.now.vertical rec.now.storages dt) }
-{
-    for k in 0..n {
-        if !cell_steady(rec, dt, k) {
-            return false;
-        }
-    }
-    true
-}
-
 // 8 at every place: Δt × (sum of C of its faces) is at most 10^6 × S.
-#[tactic(auto, unfolding(crate::specs::Stability::slots_steady))]
 fn steady(rec: &Record, dt: u64) -> bool
     requires { (rec.now.site.layers ≤ 20) × Limited rec.now.screen rec.now.horizontal rec.now.vertical }
     ensures { result ≡ slots_steady rec.now.site.layers rec.now.site.columns rec.now.screen rec.now.horizontal rec.now.vertical rec.now.storages rec.now.well_storage dt }
 {
     let layers = rec.site.layers as usize;
     product_le(dt, well_sum(layers, rec), 1000000, rec.well_storage)
-        && cells_steady(layers * COLUMN_PLACES, rec, dt)
+        && (0..layers * COLUMN_PLACES).all(|k| cell_steady(rec, dt, k))
 }
 
 // 8 on a valid record.
