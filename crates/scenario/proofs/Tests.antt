@@ -1,28 +1,51 @@
--- What the tests of a text come to, case by case, and the answers with it.
-use mathlib.Core.Path.{◌≡◌, refl, sym, ap, ◌∙◌}
-use mathlib.Core.Bool.{Bool, true, false, not, ◌&&◌}
-use mathlib.Core.List.{List, ◌∷◌}
-use Prim.Native.Nat.{ℕ, zero, suc, ◌-◌, ◌≤◌, ◌<◌}
-use Rattle.refusals.specs.Refusals.{outcome_of}
-use borrow.Author.Tests.{eq-eqb, ne_eqb, lt-ltb, le-ltb}
+-- What the tests of a text come to, case by case.
+--     refused_by, given_by     what is given where the walk of some tests ends at one, or at none
+--     three .. passed_all      the walk of the conditions 3 to 6; last_is: what the code gives for 6
+--     malformed, unread, read  the number of a text that does not have the form of lines, of one whose sections do not have theirs, and of any other
+--     entry_refused, entry_found    an entry of a refused text, and of an accepted one
+--     no_entry, some_entry     an entry by its number
+use Rattle.std.proofs.Common.{◌≡◌, refl, sym, ap, ◌∙◌, Bool, true, false, not, ◌&&◌, ◌||◌, List, ◌∷◌, ℕ, zero, suc, ◌-◌, ◌≤◌, ◌<◌, Option, Some, None, cond, Result, Ok, Err, arith, eqb, ltb, ne_eqb, le-ltb}
+use Rattle.std.specs.Option.{ok_or}
 use Rattle.laws.specs.Lists.{every, first}
 use Rattle.laws.specs.Refusal.{First, none, hit, skip, first_is, first_before, first-after, numbered, numbered_append}
+use Rattle.refusals.specs.declared.Refusal.{Refusal}
+use Rattle.refusals.specs.Refusals.{refusal, given, outcome_of}
+use Rattle.refusals.specs.Laws.{refusal_given, given_refused}
 use Rattle.text.specs.Text.{well_formed, numbers}
 use Rattle.site.specs.declared.Site.{Site}
 use Rattle.site.specs.Site.{numbers_hold, radii_hold, screen_holds}
-use Rattle.sections.specs.Sections.{form_tests, site_of, repeats_hold, entries_of, entry_at}
 use Rattle.sections.specs.declared.Entry.{Entry}
+use Rattle.sections.specs.Sections.{form_tests, site_of, repeats_hold, entries_of, entry_at}
 use Rattle.sections.specs.Laws.{form_numbered}
-use Rattle.coefficient_slots.specs.Slots.{coefficients_hold}
-use Rattle.coefficients.specs.declared.Coefficients.{Coefficients}
-use Rattle.coefficients.specs.Coefficients.{scenario_grid, start_record, coefficients_of}
 use Rattle.record.specs.declared.Record.{Record}
 use Rattle.record.specs.declared.Answer.{Answer}
-use Rattle.record.specs.declared.Outcome.TheVariants.{Taken, Refused}
 use Rattle.record.specs.Record.{zero_record, answer_of}
-use Rattle.record.specs.Laws.{outcome_of_lem, refusal_of, taken_of}
-use Rattle.scenario.specs.declared.Pumping.{Pumping}
-use Rattle.scenario.specs.Scenario.{scenario_of, number_tests, text_tests, text_refusal, start_of, pumping_of, entry_tests, entry_of}
+use Rattle.coefficient_slots.specs.Slots.{coefficients_hold}
+use Rattle.coefficients.specs.Coefficients.{scenario_grid, start_record, coefficients_of}
+use Rattle.scenario.specs.Scenario.{scenario_of, number_tests, text_tests, text_refusal, start_of, entry_tests, entry_of}
+
+module _ {A : Type 0} {ts : List (Bool × ℕ)} (x : A) where
+  pub refused_by : {n : ℕ} → First ts (suc n) → Err (refusal (suc n)) ≡ given (first ts) x
+  unfolding given
+  refused_by w = rw (← first_is w)
+
+  pub given_by : First ts 0 → Ok x ≡ given (first ts) x
+  unfolding given
+  given_by w = rw (← first_is w)
+
+-- what stands for none is the refusal
+pub none_refused : {A : Type 0} {f k : Refusal} (o : Option A) → Err f ≡ ok_or o k → f ≡ k
+none_refused None e = cc
+none_refused (Some x) e = absurd cc
+
+-- a refusal is the same whatever would have been given
+pub refused_as : {A B : Type 0} (n : ℕ) (x : A) (y : B) {k : Refusal} → given n y ≡ Err k → Err k ≡ given n x
+refused_as n x y e =
+    let r = refusal_given n y e in
+    ap Err (sym r.0) ∙ given_refused n x (positive n r.1)
+  where
+    positive : (m : ℕ) → (m ≡ 0 → ⊥) → 0 < m
+    positive m h = omega arith
 
 module _ (text : List ℕ) where
   pub malformed : well_formed text ≡ false → text_refusal text ≡ 1
@@ -33,20 +56,10 @@ module _ (text : List ℕ) where
   unfolding text_refusal text_tests first
   unread e h = rw e (first_before (form_tests (numbers text)) (number_tests (scenario_of text) (repeats_hold (numbers text))) h)
 
-  read : well_formed text ≡ true → first (form_tests (numbers text)) ≡ 0 → text_refusal text ≡ first (number_tests (scenario_of text) (repeats_hold (numbers text)))
-  unfolding text_refusal text_tests first
-  read e h = rw e (first-after (form_tests (numbers text)) (number_tests (scenario_of text) (repeats_hold (numbers text))) (form_numbered (numbers text)) h)
-
--- a refused answer and a taken one, by the number that the tests come to
-pub refused_by : {ts : List (Bool × ℕ)} {n : ℕ} (s : Record) {a : Answer} → First ts (suc n)
-    → a ≡ record { outcome = outcome_of (suc n); «record» = zero_record } → a ≡ answer_of (first ts) zero_record s
-unfolding answer_of outcome_of
-refused_by {ts} {n} s f e = rw (sym (first_is f)) e
-
-pub taken_by : {ts : List (Bool × ℕ)} (s : Record) {a : Answer} → First ts 0
-    → a ≡ record { outcome = Taken; «record» = s } → a ≡ answer_of (first ts) zero_record s
-unfolding answer_of outcome_of
-taken_by {ts} s f e = rw (sym (first_is f)) e
+  pub read : well_formed text ≡ true → first (form_tests (numbers text)) ≡ 0 → {s : Site} {b : Bool} → s ≡ site_of (numbers text) → b ≡ repeats_hold (numbers text)
+      → text_refusal text ≡ first (number_tests s b)
+  unfolding text_refusal text_tests scenario_of first
+  read e h es eb = rw (e, es, eb) (first-after (form_tests (numbers text)) (number_tests (site_of (numbers text)) (repeats_hold (numbers text))) (form_numbered (numbers text)) h)
 
 -- ---- the conditions 3 to 6 in their order
 module _ (s : Site) (repeats : Bool) where
@@ -54,42 +67,47 @@ module _ (s : Site) (repeats : Bool) where
   unfolding number_tests
   three e = hit (ap not e)
 
-  pub four : (numbers_hold s && repeats) ≡ true → radii_hold s ≡ false → First (number_tests s repeats) 4
-  unfolding number_tests
-  four e e4 = skip (ap not e) (hit (ap not e4))
+  module _ (e : (numbers_hold s && repeats) ≡ true) where
+    pub four : radii_hold s ≡ false → First (number_tests s repeats) 4
+    unfolding number_tests
+    four e4 = skip (ap not e) (hit (ap not e4))
 
-  pub five : (numbers_hold s && repeats) ≡ true → radii_hold s ≡ true → screen_holds s ≡ false → First (number_tests s repeats) 5
-  unfolding number_tests
-  five e e4 e5 = skip (ap not e) (skip (ap not e4) (hit (ap not e5)))
+    module _ (e4 : radii_hold s ≡ true) where
+      pub five : screen_holds s ≡ false → First (number_tests s repeats) 5
+      unfolding number_tests
+      five e5 = skip (ap not e) (skip (ap not e4) (hit (ap not e5)))
 
-  pub six : (numbers_hold s && repeats) ≡ true → radii_hold s ≡ true → screen_holds s ≡ true → coefficients_hold (scenario_grid s) ≡ false → First (number_tests s repeats) 6
-  unfolding number_tests
-  six e e4 e5 e6 = skip (ap not e) (skip (ap not e4) (skip (ap not e5) (hit (ap not e6))))
+      module _ (e5 : screen_holds s ≡ true) where
+        pub six : coefficients_hold (scenario_grid s) ≡ false → First (number_tests s repeats) 6
+        unfolding number_tests
+        six e6 = skip (ap not e) (skip (ap not e4) (skip (ap not e5) (hit (ap not e6))))
 
-  pub passed_all : (numbers_hold s && repeats) ≡ true → radii_hold s ≡ true → screen_holds s ≡ true → coefficients_hold (scenario_grid s) ≡ true → First (number_tests s repeats) 0
-  unfolding number_tests
-  passed_all e e4 e5 e6 = skip (ap not e) (skip (ap not e4) (skip (ap not e5) (skip (ap not e6) none)))
+        pub passed_all : coefficients_hold (scenario_grid s) ≡ true → First (number_tests s repeats) 0
+        unfolding number_tests
+        passed_all e6 = skip (ap not e) (skip (ap not e4) (skip (ap not e5) (skip (ap not e6) none)))
 
--- ---- 6, by the answer of the coefficients
-pub held_is : (s : Site) {r : Coefficients} → r ≡ coefficients_of s → r.held ≡ coefficients_hold (scenario_grid s)
-unfolding coefficients_of
-held_is s e = ap (λ r. r.held) e
-
-pub made_is : (s : Site) {r : Coefficients} → r ≡ coefficients_of s → coefficients_hold (scenario_grid s) ≡ true → r.«record» ≡ start_record s
-unfolding coefficients_of
-made_is s e h = ap (λ r. r.«record») e ∙ rw h
+        -- 6 by the answer of the coefficients
+        pub last_is : ok_or (coefficients_of s) (refusal 6) ≡ given (first (number_tests s repeats)) (start_record s)
+        unfolding coefficients_of
+        last_is = by_test (coefficients_hold (scenario_grid s)) refl
+          where
+            by_test : (t : Bool) → coefficients_hold (scenario_grid s) ≡ t → ok_or (cond t (Some (start_record s)) None) (refusal 6) ≡ given (first (number_tests s repeats)) (start_record s)
+            by_test true h = given_by _ (passed_all h)
+            by_test false h = refused_by _ (six h)
 
 -- ---- start
 module _ (text : List ℕ) where
-  pub start_refused : (m : ℕ) → (m ≡ 0 → ⊥) → text_refusal text ≡ m → {a : Answer} → a ≡ record { outcome = outcome_of m; «record» = zero_record } → a ≡ start_of text
-  unfolding start_of answer_of outcome_of
-  start_refused zero h e p = absurd (h refl)
-  start_refused (suc m) h e p = rw e p
+  pub start_made : {r : Record} → text_refusal text ≡ 0 → r ≡ start_record (scenario_of text) → ◌≡◌ {A = Answer} (record { outcome = Ok tt; «record» = r }) (start_of text)
+  unfolding start_of answer_of given
+  start_made e made = rw (e, made)
 
-  pub start_made : {s : Site} {b : Bool} {a : Answer} → well_formed text ≡ true → first (form_tests (numbers text)) ≡ 0 → s ≡ site_of (numbers text) → b ≡ repeats_hold (numbers text)
-      → a ≡ answer_of (first (number_tests s b)) zero_record (start_record s) → a ≡ start_of text
-  unfolding start_of scenario_of
-  start_made {s} {b} w f es eb p = p ∙ rw (read text w f, es, eb)
+  pub start_refused : {r : Record} {k : Refusal} → outcome_of (text_refusal text) ≡ Err k → r ≡ zero_record → ◌≡◌ {A = Answer} (record { outcome = Err k; «record» = r }) (start_of text)
+  unfolding start_of answer_of given
+  start_refused {r} {k} e all = rw all (by_number (text_refusal text) e)
+    where
+      by_number : (n : ℕ) → outcome_of n ≡ Err k → ◌≡◌ {A = Answer} (record { outcome = Err k; «record» = zero_record }) (answer_of n zero_record (start_record (scenario_of text)))
+      by_number zero e = absurd cc
+      by_number (suc n) e = ap (λ o. record { outcome = o; «record» = zero_record }) (sym e)
 
 -- ---- an entry
 head_numbered : (b : Bool) (ts : List (Bool × ℕ)) → numbered ts ≡ true → numbered ((b, 1) ∷ ts) ≡ true
@@ -100,11 +118,6 @@ number_tests-numbered : (s : Site) (b : Bool) → numbered (number_tests s b) �
 unfolding numbered every number_tests
 number_tests-numbered s b = refl
 
-refused_pumping : (m : ℕ) (e : Entry) → (m ≡ 0 → ⊥) → pumping_of m e ≡ Pumping.Refused m
-unfolding pumping_of
-refused_pumping zero e h = absurd (h refl)
-refused_pumping (suc m) e h = refl
-
 module _ (text : List ℕ) where
   tests-numbered : numbered (text_tests text) ≡ true
   unfolding text_tests
@@ -112,30 +125,21 @@ module _ (text : List ℕ) where
       numbered_append ((not (well_formed text), 1) ∷ form_tests (numbers text)) (number_tests (scenario_of text) (repeats_hold (numbers text)))
       (head_numbered _ _ (form_numbered (numbers text))) (number_tests-numbered _ _)
 
-  pub taken_zero : {a : Answer} → a ≡ start_of text → a.outcome ≡ Taken → text_refusal text ≡ 0
-  unfolding start_of
-  taken_zero {a} e t = taken_of (text_refusal text) (sym (ap (λ x. x.outcome) e ∙ outcome_of_lem _ _ _) ∙ t)
-
-  pub entry_refused : (k n : ℕ) {a : Answer} → a ≡ start_of text → a.outcome ≡ Refused n → Pumping.Refused n ≡ entry_of text k
-  unfolding start_of entry_of text_refusal
-  entry_refused k n {a} e t =
-      let r = refusal_of (text_refusal text) n (sym (ap (λ x. x.outcome) e ∙ outcome_of_lem _ _ _) ∙ t) in
-      sym (ap (λ m. pumping_of m (entry_at (numbers text) (k - 1))) (first_before (text_tests text) (entry_tests (numbers text) k) r.1 ∙ r.0)
-      ∙ refused_pumping n _ (λ z. r.1 (r.0 ∙ z)))
-
-  pub entry_found : (k : ℕ) {p : Pumping} → text_refusal text ≡ 0 → p ≡ pumping_of (first (entry_tests (numbers text) k)) (entry_at (numbers text) (k - 1)) → p ≡ entry_of text k
+  pub entry_refused : (n : ℕ) {k : Refusal} → outcome_of (text_refusal text) ≡ Err k → Err k ≡ entry_of text n
   unfolding entry_of text_refusal
-  entry_found k e q = q ∙ sym (ap (λ m. pumping_of m (entry_at (numbers text) (k - 1))) (first-after (text_tests text) (entry_tests (numbers text) k) tests-numbered e))
+  entry_refused n e =
+      let r = refusal_given (first (text_tests text)) tt e in
+      rw (first_before (text_tests text) (entry_tests (numbers text) n) r.1) (refused_as (first (text_tests text)) (entry_at (numbers text) (n - 1)) tt e)
+
+  pub entry_found : (n : ℕ) {p : Result Entry Refusal} → text_refusal text ≡ 0 → p ≡ given (first (entry_tests (numbers text) n)) (entry_at (numbers text) (n - 1)) → p ≡ entry_of text n
+  unfolding entry_of text_refusal
+  entry_found n e q = q ∙ rw (first-after (text_tests text) (entry_tests (numbers text) n) tests-numbered e)
 
 module _ (ns : List ℕ) (n : ℕ) where
-  pub no_entry_zero : n ≡ 0 → Pumping.Refused 12 ≡ pumping_of (first (entry_tests ns n)) (entry_at ns (n - 1))
-  unfolding entry_tests first pumping_of
-  no_entry_zero e = rw (eq-eqb n 0 e)
+  pub no_entry : (eqb n 0 || ltb (entries_of ns) n) ≡ true → First (entry_tests ns n) 12
+  unfolding entry_tests
+  no_entry e = hit e
 
-  pub no_entry_past : (n ≡ 0 → ⊥) → entries_of ns < n → Pumping.Refused 12 ≡ pumping_of (first (entry_tests ns n)) (entry_at ns (n - 1))
-  unfolding entry_tests first pumping_of
-  no_entry_past h k = rw (ne_eqb n 0 h, lt-ltb (entries_of ns) n k)
-
-  pub some_entry : (n ≡ 0 → ⊥) → n ≤ entries_of ns → pumping_of (first (entry_tests ns n)) (entry_at ns (n - 1)) ≡ Pumping.Found (entry_at ns (n - 1))
-  unfolding entry_tests first pumping_of
-  some_entry h k = rw (ne_eqb n 0 h, le-ltb (entries_of ns) n k)
+  pub some_entry : (n ≡ 0 → ⊥) → n ≤ entries_of ns → First (entry_tests ns n) 0
+  unfolding entry_tests
+  some_entry h k = skip (rw (ne_eqb n 0 h, le-ltb (entries_of ns) n k)) none

@@ -1,18 +1,25 @@
 -- `scenario::found` meets its contract.
-use Rattle.std.proofs.Common.{◌≡◌, sym, ap, ◌∙◌, ◌-◌, arith}
-use Rattle.sections.specs.Sections.{entry_at}
-use Rattle.scenario.specs.declared.Pumping.{Pumping}
-use Rattle.scenario.proofs.Tests.{no_entry_zero, no_entry_past, some_entry}
+use Rattle.std.proofs.Common.{◌≡◌, true, ◌||◌, ◌-◌, eqb, ltb, arith, eq-eqb, lt-ltb}
+use Rattle.std.proofs.Math.Bool.{or-true}
+use Rattle.refusals.specs.Refusals.{refusal}
+use Rattle.sections.specs.Sections.{entries_of, entry_at}
+use Rattle.scenario.proofs.Tests.{refused_by, given_by, no_entry, some_entry}
 use Rattle.scenario.proofs.found.Goals as goal
+use Rattle.scenario.proofs.found.Goals.{then-number-eq0-via-then-number-eq0, then-number-eq0-via-else-number-eq0+then-entries-number}
 
 pub returns-then-number-eq0 : goal.returns-then-number-eq0
-returns-then-number-eq0 c = λ ns r. no_entry_zero ns c.args.number c.if-number-eq0.true
-
-pub returns-then-entries-number : goal.returns-then-entries-number
-returns-then-entries-number c = λ ns r. no_entry_past ns c.args.number c.if-number-eq0.false (omega (arith, c.entries.ensures ns r))
+unfolding refusal
+returns-then-number-eq0 c ns r =
+    let n = c.args.number in
+    let none : (eqb n 0 || ltb (entries_of ns) n) ≡ true =
+    elim c.then-number-eq0.branch [
+      | then-number-eq0-via-then-number-eq0 w ↦ rw (eq-eqb n 0 w.if-number-eq0.true)
+      | then-number-eq0-via-else-number-eq0+then-entries-number w ↦ rw (lt-ltb (entries_of ns) n (omega (arith, w.entries.ensures ns r))) (or-true (eqb n 0))
+    ] in
+    refused_by _ (no_entry ns n none)
 
 pub returns : goal.returns
-returns c = λ ns r.
+returns c ns r =
     let n = c.args.number in
     let entry : c.entry_at.result ≡ entry_at ns (n - 1) = c.entry_at.ensures ns r in
-    ap Pumping.Found entry ∙ sym (some_entry ns n c.if-number-eq0.false (omega (arith, c.entries.ensures ns r)))
+    rw entry (given_by _ (some_entry ns n c.if-number-eq0.false (omega (arith, c.entries.ensures ns r))))

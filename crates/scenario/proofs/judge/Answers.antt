@@ -1,56 +1,62 @@
 -- `scenario::judge` meets its contract: the form of the lines, then that of the sections, then what `made` says.
-use Rattle.std.proofs.Common.{Bool, ◌≡◌, sym, ap, ◌∙◌, true, List, ℕ, length, arith}
-use borrow.Author.Tests.{not-true, not-false}
-use Rattle.laws.specs.Lists.{first, padded}
-use Rattle.limits.specs.Limits.{number_places}
-use Rattle.text.specs.Text.{well_formed, numbers, read_of}
-use Rattle.text.specs.declared.Numbers.{Numbers}
-use Rattle.text.specs.Laws.{formed_is, count_is, values_are}
+use Rattle.std.proofs.Common.{sym, ap, ◌∙◌, Err}
+use Rattle.std.proofs.lemmas.Result.{err_from_is_err_and, MatchResult-at_err}
+use Rattle.laws.specs.Lists.{first}
+use Rattle.refusals.specs.declared.Refusal.{Refusal}
+use Rattle.refusals.specs.Refusals.{refusal, given}
+use Rattle.refusals.specs.Laws.{value_given, refusal_given}
+use Rattle.text.specs.Text.{numbers}
+use Rattle.text.specs.Laws.{read_none, read_some}
 use Rattle.site.specs.Site.{counts_hold}
-use Rattle.sections.specs.declared.Layout.{Layout}
-use Rattle.sections.specs.Sections.{form_tests}
-use Rattle.sections.specs.Reading.{Reads}
 use Rattle.sections.specs.Laws.{form_passed, counts_hold_lem}
-use Rattle.scenario.proofs.Tests.{malformed, unread, start_refused, start_made}
+use Rattle.coefficients.specs.Coefficients.{start_record}
+use Rattle.scenario.specs.Scenario.{scenario_of, number_tests}
+use Rattle.scenario.proofs.Tests.{none_refused, refused_as, malformed, unread, read}
 use Rattle.scenario.proofs.judge.Goals as goal
 
--- ---- a text that has been read
-formed : (text : List ℕ) {n : Numbers} {t : Bool} → n ≡ read_of text → n.formed ≡ t → well_formed text ≡ t
-formed text e h = sym (formed_is text) ∙ sym (ap (λ (n : Numbers). n.formed) e) ∙ h
+pub returns-in_err-read : goal.returns-in_err-read
+unfolding given refusal
+returns-in_err-read c =
+    let p = err_from_is_err_and c.from_residual.result c.from_residual.ensures.1 in
+    rw (p.1, p.2, malformed _ (read_none _ (sym c.read.ensures ∙ c.in_err-read.ensures.ok_part)))
+    (ap Err (sym (none_refused {k = Refusal.Lines} c.read.result c.in_err-read.ensures.value)))
 
--- its sections have been looked for
-laid : (text : List ℕ) {n : Numbers} {l : Layout} → n ≡ read_of text → n.formed ≡ true
-    → ((ns : List ℕ) → n.values ≡ padded number_places 0 ns → n.count ≡ length ns → (l.refusal ≡ first (form_tests ns)) × (l.refusal ≡ 0 → Reads n.values l ns))
-    → (l.refusal ≡ first (form_tests (numbers text))) × (l.refusal ≡ 0 → Reads n.values l (numbers text))
-laid text e h layout =
-    let form = formed text e h in
-    layout (numbers text) (ap (λ (n : Numbers). n.values) e ∙ values_are text form) (ap (λ (n : Numbers). n.count) e ∙ count_is text form)
-
-pub returns-then-not-read : goal.returns-then-not-read
-returns-then-not-read c =
-    let e = malformed _ (formed c.args.text.now c.read-read.ensures (not-true _ c.if-not-read.true)) in
-    (start_refused _ 1 (λ z. omega arith) e c.unread.ensures, λ z. absurd (omega arith))
-
-pub returns-then-number-ne0 : goal.returns-then-number-ne0
-returns-then-number-ne0 c =
-    let text = c.args.text.now in
-    let refused = c.if-number-ne0.true in
-    let number = (laid text c.read-read.ensures (not-false _ c.if-not-read.false) c.layout_of-layout.ensures).0 in
-    let e = unread text (formed text c.read-read.ensures (not-false _ c.if-not-read.false)) (λ z. refused (number ∙ z)) in
-    (start_refused text _ refused (e ∙ sym number) c.unread-then-number-ne0.ensures, λ z. absurd (refused (number ∙ sym e ∙ z)))
+pub returns-in_err-layout : goal.returns-in_err-layout
+returns-in_err-layout c =
+    let p = err_from_is_err_and c.from_residual-in_err-layout.result c.from_residual-in_err-layout.ensures.1 in
+    let n = read_some c.args.text.now _ (sym c.read.ensures ∙ c.in_ok-read.ensures.ok_part) in
+    let refused = MatchResult-at_err _ _ _ c.in_err-layout.was (c.layout_of.ensures (numbers c.args.text.now) n.2 n.1) in
+    rw (p.1, p.2, unread c.args.text.now n.0 (refusal_given _ tt refused).1) refused
 
 pub repeats_hold-repeats-requires : goal.repeats_hold-repeats-requires
-repeats_hold-repeats-requires c = (_, (laid c.args.text.now c.read-read.ensures (not-false _ c.if-not-read.false) c.layout_of-layout.ensures).1 c.if-number-ne0.false)
+repeats_hold-repeats-requires c =
+    let n = read_some c.args.text.now _ (sym c.read.ensures ∙ c.in_ok-read.ensures.ok_part) in
+    (_, c.in_ok-layout.ensures (numbers c.args.text.now) n.2 n.1)
 
 pub site_of-requires : goal.site_of-requires
-site_of-requires c = (_, (laid c.args.text.now c.read-read.ensures (not-false _ c.if-not-read.false) c.layout_of-layout.ensures).1 c.if-number-ne0.false)
+site_of-requires c =
+    let n = read_some c.args.text.now _ (sym c.read.ensures ∙ c.in_ok-read.ensures.ok_part) in
+    (_, c.in_ok-layout.ensures (numbers c.args.text.now) n.2 n.1)
 
-pub made-answer-requires : goal.made-answer-requires
-made-answer-requires c =
-    let r = (laid c.args.text.now c.read-read.ensures (not-false _ c.if-not-read.false) c.layout_of-layout.ensures).1 c.if-number-ne0.false in
+pub made-requires : goal.made-requires
+made-requires c =
+    let n = read_some c.args.text.now _ (sym c.read.ensures ∙ c.in_ok-read.ensures.ok_part) in
+    let r = c.in_ok-layout.ensures (numbers c.args.text.now) n.2 n.1 in
     ap counts_hold (c.site_of.ensures _ r) ∙ counts_hold_lem (form_passed _ r.form)
 
+pub returns-in_err-record : goal.returns-in_err-record
+returns-in_err-record c =
+    let p = err_from_is_err_and c.from_residual-in_err-record.result c.from_residual-in_err-record.ensures.1 in
+    let n = read_some c.args.text.now _ (sym c.read.ensures ∙ c.in_ok-read.ensures.ok_part) in
+    let r = c.in_ok-layout.ensures (numbers c.args.text.now) n.2 n.1 in
+    let number = read c.args.text.now n.0 r.form (c.site_of.ensures _ r) (c.repeats_hold-repeats.ensures _ r) in
+    rw (p.1, p.2, number) (sym (refused_as (first (number_tests c.site_of.result c.repeats_hold-repeats.result)) tt (start_record c.site_of.result) (sym c.in_err-record.ensures)))
+
 pub returns : goal.returns
+unfolding scenario_of
 returns c =
-    let r = (laid c.args.text.now c.read-read.ensures (not-false _ c.if-not-read.false) c.layout_of-layout.ensures).1 c.if-number-ne0.false in
-    (start_made _ (formed c.args.text.now c.read-read.ensures (not-false _ c.if-not-read.false)) r.form (c.site_of.ensures _ r) (c.repeats_hold-repeats.ensures _ r) c.made-answer.ensures, λ z. r)
+    let n = read_some c.args.text.now _ (sym c.read.ensures ∙ c.in_ok-read.ensures.ok_part) in
+    let r = c.in_ok-layout.ensures (numbers c.args.text.now) n.2 n.1 in
+    let number = read c.args.text.now n.0 r.form (c.site_of.ensures _ r) (c.repeats_hold-repeats.ensures _ r) in
+    let v = value_given (first (number_tests c.site_of.result c.repeats_hold-repeats.result)) (start_record c.site_of.result) (sym c.in_ok-record.ensures) in
+    record { taken = number ∙ v.0; made = sym v.1 ∙ ap start_record (c.site_of.ensures _ r); read = r }

@@ -1,19 +1,15 @@
--- `scenario::pumping_entry` meets its contract: a refused text gives its own number, an accepted one what `found` finds.
-use Rattle.std.proofs.Common.{◌≡◌}
-use Rattle.scenario.specs.declared.Pumping.{Pumping}
-use Rattle.scenario.specs.Scenario.{entry_of}
-use Rattle.scenario.proofs.Tests.{taken_zero, entry_refused, entry_found}
+-- `scenario::pumping_entry` meets its contract: a refused text gives its own refusal, an accepted one what `found` finds.
+use Rattle.std.proofs.lemmas.Result.{err_from_is_err_and}
+use Rattle.scenario.proofs.Tests.{entry_refused, entry_found}
 use Rattle.scenario.proofs.pumping_entry.Goals as goal
 
+pub returns-in_err-accepted : goal.returns-in_err-accepted
+returns-in_err-accepted c =
+    let p = err_from_is_err_and c.from_residual.result c.from_residual.ensures.1 in
+    rw (p.1, p.2) (entry_refused _ _ c.in_err-accepted.ensures)
+
 pub found-requires : goal.found-requires
-found-requires c = (_, c.judge-judged.ensures.1 (taken_zero c.args.text.now c.judge-judged.ensures.0 c.in-Taken.is))
+found-requires c = (_, c.in_ok-accepted.ensures.read)
 
-pub returns-in-Refused : goal.returns-in-Refused
-returns-in-Refused c =
-    let answer : Pumping.Refused c.in-Refused.refusal ≡ entry_of c.args.text.now c.args.number = entry_refused c.args.text.now _ _ c.judge-judged.ensures.0 c.in-Refused.is in
-    answer
-
-pub returns-in-Taken : goal.returns-in-Taken
-returns-in-Taken c =
-    let accepted = taken_zero c.args.text.now c.judge-judged.ensures.0 c.in-Taken.is in
-    entry_found c.args.text.now _ accepted (c.found.ensures _ (c.judge-judged.ensures.1 accepted))
+pub returns : goal.returns
+returns c = entry_found _ _ c.in_ok-accepted.ensures.taken (c.found.ensures _ c.in_ok-accepted.ensures.read)
