@@ -1,8 +1,7 @@
 -- What the definitions give for bore K is what the documents say, row by row: nothing to believe but the last statement.
-use Rattle.std.specs.Prelude.{◌≡◌, refl, ℕ, ℤ, pos, Ok}
-use Rattle.std.proofs.Common.{sym, ap, ap₂, subst, ◌∙◌, arith}
+use Rattle.std.proofs.Common.{◌≡◌, ℕ, List, [], ◌∷◌, ◌++◌, ℤ, pos, Ok, sym, refl, ap, ◌∙◌, subst, ap₂, arith}
 use Rattle.std.proofs.Math.Path.{fun_ext}
-use mathlib.Core.List.{List, [], ◌∷◌, ◌++◌, map-append, flat_map}
+use mathlib.Core.List.{map-append, flat_map}
 use Rattle.refusals.specs.Refusals.{refusal_number, refusal as numbered, given, outcome_of}
 use Rattle.laws.specs.Lists.{all_below, padded, first, ifℕ, ifℤ, sumℕ, sumℤ, range, some}
 use Rattle.network.specs.Network.{Rule, Network, State, at_rest, is_place, loss_at, storage_at, drawdown, saturated, at_table, in_use_by, in_use, water, crossing, flow, outflow, toward, inward, loss_after, losses_after, from_last_column, moved, length_out, rate_or_length_out, conductance_sum, stable, unstable, totals_pass, well_too_deep, table_too_deep, step_tests, refusal}

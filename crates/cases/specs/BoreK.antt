@@ -1,7 +1,7 @@
 -- The bore K of document 01: the numbers of its text, section by section, and the text itself, which is examples/bore-k.txt. And its numbers with one
 -- changed, for the row of the table that is not marked K.
-use mathlib.Core.List.{List, [], ◌∷◌, ◌++◌, flat_map}
-use Rattle.std.specs.Prelude.{ℕ, set}
+use Rattle.std.specs.Prelude.{ℕ, List, [], ◌∷◌, ◌++◌, set}
+use mathlib.Core.List.{flat_map}
 use Rattle.decimal.specs.Decimal.{digits_of}
 use Rattle.text.specs.Text.{line_feed}
 

@@ -1,8 +1,7 @@
 -- Start accepts bore K, and what it gives: computed part by part, for the table's proof. Laws only, nothing to believe.
 --     scenario_k     the scenario of bore K's text is that of its numbers
 --     started        start's answer
-use Rattle.std.specs.Prelude.{◌≡◌, refl, true, Ok}
-use Rattle.std.proofs.Common.{ap, ◌∙◌}
+use Rattle.std.proofs.Common.{◌≡◌, true, Ok, refl, ap, ◌∙◌}
 use mathlib.Core.List.{get_last_d, flat_map}
 use Rattle.refusals.specs.Refusals.{given}
 use Rattle.laws.specs.Lists.{first, all_below, every, padded, range}

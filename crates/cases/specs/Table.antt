@@ -1,12 +1,11 @@
 -- The cases that document 01 marks K, with what document 02 changes of them: what the definitions give for bore K beside what the documents say. The
 -- statement that the two agree is proofs/Agrees.antt. One row more is not marked K: bore K cannot see which of its two equal Kv stands where.
-use Rattle.std.specs.Prelude.{◌≡◌, ℕ, zero, suc, ℤ, pos, neg_ℤ, get_or, Result, Ok, Err}
-use mathlib.Core.List.{List, [], ◌∷◌, ◌++◌, map}
+use Rattle.std.specs.Prelude.{◌≡◌, ℕ, zero, suc, List, [], ◌∷◌, ◌++◌, map, get_or, ℤ, pos, neg_ℤ, Ok, Err, Result}
 use Rattle.refusals.specs.declared.Refusal.{Refusal}
 use Rattle.refusals.specs.Refusals.{refusal_number}
 use Rattle.network.specs.Network.{Network, drawdown, in_use, flow}
 use Rattle.network.specs.Grid.{Grid, place, across_face, down_face, network_of}
-use Rattle.geometry.specs.Geometry.{logarithm, horizontal}
+use Rattle.geometry.specs.Geometry.{logarithm}
 use Rattle.site.specs.Columns.{area_at}
 use Rattle.sections.specs.Sections.{site_of}
 use Rattle.record.specs.declared.Record.{Record}

@@ -2,11 +2,8 @@
 --     Steps N s ts s'    the accepted steps ts lead from the state s to s'
 --     conserved_over     they conserve water
 --     one_more           one accepted step more; greatest_more: the largest D that the well has had is raised by it, or stays
-use mathlib.Core.Path.{◌≡◌, sym, ap, ◌∙◌}
-use mathlib.Core.Bool.{Bool}
-use mathlib.Core.List.{List, [], ◌∷◌, ◌++◌}
-use Prim.Native.Nat.{ℕ, ◌*◌}
-use lib.IntN.{ℤ, pos, neg_ℤ, ◌+ℤ◌, ◌-ℤ◌, +ℤ_idr, neg_ℤ-+ℤ}
+use Rattle.std.proofs.Common.{◌≡◌, ℕ, ◌*◌, Bool, List, [], ◌∷◌, ◌++◌, ℤ, pos, ◌+ℤ◌, ◌-ℤ◌, neg_ℤ, sym, ap, ◌∙◌}
+use lib.IntN.{+ℤ_idr, neg_ℤ-+ℤ}
 use Rattle.laws.specs.Integer.{+ℤ_swap, regroup, larger_assoc, larger_comm}
 use Rattle.laws.specs.Lists.{larger, ifℤ, sumℕ, sumℤ}
 use Rattle.laws.specs.Sums.{ifℤ_add, ifℤ_pos, ifℕ_zero}

@@ -2,18 +2,12 @@
 --     told_depth, told_budget, ..           each reading answers what the ledger has for it
 --     same_budget, same_loss, same_depth    so where it is given, it gives what the ledger's network and state give
 --     set-inside, set-loss                  the set that bytes give has places only; its storage loss is that of the bytes
-use Rattle.std.specs.Prelude.{Ok}
-use mathlib.Core.Path.{◌≡◌, refl, ap, fun_ext, ◌∙◌}
-use mathlib.Core.Bool.{Bool, true, false, cond, not, ◌&&◌, ◌||◌, false≢true}
-use mathlib.Core.List.{List, [], ◌∷◌, map, flat_map}
-use Prim.Native.Nat.{ℕ, zero, suc, ◌-◌, ◌<◌}
-use native.Mathlib.Omega.{arith}
-use lib.Dec.{eqb, leb, ltb}
-use lib.Ieee.{Float}
-use lib.IntN.{ℤ, neg_ℤ}
-use lib.ListN.{length, get_or}
+use Rattle.std.proofs.Common.{◌≡◌, ℕ, zero, suc, ◌-◌, ◌<◌, Bool, true, false, cond, not, ◌&&◌, ◌||◌, eqb, ltb, leb, List, [], ◌∷◌, map, length, get_or, ℤ, neg_ℤ, Ok, Float, refl, ap, ◌∙◌, arith, ltb-true, lt-ltb, eq-eqb, eqb-true, leb-true}
+use mathlib.Core.Path.{fun_ext}
+use mathlib.Core.Bool.{false≢true}
+use mathlib.Core.List.{flat_map}
 use lib.Signed.{lt_z}
-use borrow.Author.Tests.{leb-true, ltb-true, lt-ltb, eqb-true, eq-eqb, not-false}
+use borrow.Author.Tests.{not-false}
 use Rattle.refusals.specs.Refusals.{given}
 use Rattle.laws.specs.All.{and_left}
 use Rattle.laws.specs.Lists.{first, range}

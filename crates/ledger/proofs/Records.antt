@@ -3,13 +3,7 @@
 --                       the largest D that the well has had in them; start_whole: so is the record at the start; mark_is: its mark
 --     runs_left         so does the record that a call leaves; runs_all: that a list of calls leaves
 --     same_outcomes     the outcomes among their replies are the ledger's
-use mathlib.Core.Path.{◌≡◌, refl, sym, ap, ap₂, subst, ◌∙◌}
-use mathlib.Core.Bool.{Bool, true, false, cond}
-use mathlib.Core.List.{List, [], ◌∷◌, ◌++◌, append-nil, append_assoc}
-use Prim.Native.Nat.{ℕ, ◌+◌, ◌/◌, ◌%◌}
-use lib.Dec.{eqb}
-use lib.IntN.{ℤ, pos}
-use borrow.Author.Tests.{eqb-true}
+use Rattle.std.proofs.Common.{◌≡◌, ℕ, ◌+◌, ◌/◌, ◌%◌, Bool, true, false, cond, eqb, List, [], ◌∷◌, ◌++◌, ℤ, pos, sym, refl, ap, ◌∙◌, subst, ap₂, append_assoc, append-nil, eqb-true}
 use Rattle.laws.specs.Lists.{larger}
 use Rattle.laws.specs.Ranges.{map-range_same}
 use Rattle.limits.specs.Limits.{column_places, cell_places}

@@ -1,8 +1,7 @@
 -- The replies of a run are what the ledger has for its calls: laws only, nothing to believe.
 --     tells        the reply to one call on a record of a run
 --     told_all     the replies to a list of calls from such a record
-use mathlib.Core.Path.{◌≡◌, refl, sym, ap, ◌∙◌}
-use mathlib.Core.List.{List, [], ◌∷◌}
+use Rattle.std.proofs.Common.{◌≡◌, List, [], ◌∷◌, sym, refl, ap, ◌∙◌}
 use Rattle.network.specs.Network.{State}
 use Rattle.network.specs.Grid.{network_of}
 use Rattle.site.specs.declared.Site.{Site}

@@ -2,11 +2,7 @@
 -- Laws only, nothing to believe.
 --     still             a step that leaves the record leaves it however often
 --     repeated          the record that `repeat` leaves
-use Rattle.std.specs.Prelude.{◌≡◌, Bool, replicate}
-use Rattle.std.proofs.Math.Path.{refl, sym, ap}
-use Rattle.std.proofs.Common.{◌∙◌, arith}
-use Rattle.std.proofs.Math.Bool.{true, false, cond}
-use Prim.Native.Nat.{ℕ, zero, suc}
+use Rattle.std.proofs.Common.{◌≡◌, ℕ, zero, suc, Bool, true, false, cond, replicate, sym, refl, ap, ◌∙◌, arith}
 use Rattle.record.specs.declared.Record.{Record}
 use Rattle.record.specs.Record.{repeated_of}
 use Rattle.validity.specs.Validity.{valid}

@@ -2,15 +2,10 @@
 --     largest_above     no place's D is above it
 --     largest_least     where no place's D is above M, nor is it
 --     largest-named     some named place has it
-use mathlib.Core.Path.{◌≡◌, refl, sym, ap, subst}
-use mathlib.Core.Bool.{Bool, true, false}
-use mathlib.Core.Logic.{⊎_elim}
+use Rattle.std.proofs.Common.{◌≡◌, ℕ, zero, suc, ◌+◌, ◌-◌, ◌<◌, ◌≤◌, Bool, true, false, List, [], ◌∷◌, map, ℤ, ◌≤ℤ◌, sym, refl, ap, subst, ⊎_elim, zero-le, arith}
 use mathlib.Core.List.Memᴰ
-use mathlib.Core.List.{List, [], ◌∷◌, map, Memᴰ}
-use Prim.Native.Nat.{ℕ, zero, suc, ◌+◌, ◌-◌, ◌≤◌, ◌<◌, zero-le}
-use native.Mathlib.Omega.{arith}
-use lib.IntN.{ℤ}
-use lib.Signed.{le_z, ◌≤ℤ◌, ≤ℤ_refl}
+use mathlib.Core.List.{Memᴰ}
+use lib.Signed.{le_z, ≤ℤ_refl}
 use Rattle.laws.specs.Integer.{≤ℤ_trans, larger-first, larger_second, larger_bounds}
 use Rattle.laws.specs.Lists.{larger}
 use Rattle.laws.specs.Sums.{mem_range, range_mem, range-below, mem_flat_map, flat_map_mem}

@@ -4,20 +4,14 @@
 --     lost_is                 the losses of its well and cells, and its inflow, are together its pumped total
 --     no_intake               10 refuses no step at rate 0 on it
 --     rest_each, rest_all     what each call of a list leaves, and what all of them do
-use Rattle.std.specs.Prelude.{Ok, Err}
-use mathlib.Core.Path.{◌≡◌, refl, sym, ap, subst, ◌∙◌}
-use mathlib.Core.Bool.{Bool, true, false, not}
-use mathlib.Core.List.{List, [], ◌∷◌, Memᴰ}
-use Prim.Native.Nat.{ℕ, zero, suc, ◌+◌, ◌*◌, ◌<◌}
-use native.Mathlib.Nat.{add-zero, zero-mul}
-use native.Mathlib.Omega.{arith}
-use lib.Dec.{ltb}
-use lib.IntN.{ℤ, pos, neg_ℤ, nat_abs, ◌+ℤ◌, ◌-ℤ◌, +ℤ_idl, neg_ℤ-+ℤ, neg_ℤ-neg_ℤ, +ℤ-neg_ℤ_cancel}
-use lib.Signed.{lt_z, ◌≤ℤ◌, ≤ℤ_refl, lt_z_yes, clash_ℤ}
+use Rattle.std.proofs.Common.{◌≡◌, ℕ, zero, suc, ◌+◌, ◌*◌, ◌<◌, Bool, true, false, not, ltb, List, [], ◌∷◌, ℤ, pos, ◌+ℤ◌, ◌-ℤ◌, neg_ℤ, nat_abs, ◌≤ℤ◌, Ok, Err, sym, refl, ap, ◌∙◌, subst, add-zero, zero-mul, arith, lt-ltb, eqb-true}
+use mathlib.Core.List.{Memᴰ}
+use lib.IntN.{+ℤ_idl, neg_ℤ-+ℤ, neg_ℤ-neg_ℤ, +ℤ-neg_ℤ_cancel}
+use lib.Signed.{lt_z, ≤ℤ_refl, lt_z_yes, clash_ℤ}
 use Rattle.refusals.specs.declared.Refusal.{Refusal}
 use Rattle.refusals.specs.Refusals.{refusal, given}
 use Rattle.refusals.specs.Laws.{same_number}
-use borrow.Author.Tests.{eqb-true, lt-ltb, not-false}
+use borrow.Author.Tests.{not-false}
 use Rattle.laws.specs.All.{and_left, and_right}
 use Rattle.laws.specs.Integer.{regroup, natural, pos_≤ℤ, ≤ℤ_trans, ≤ℤ_antisym, larger_bounds}
 use Rattle.laws.specs.Lists.{larger, first, every, ifℤ, sumℤ, range}

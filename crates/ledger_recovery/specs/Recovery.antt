@@ -1,8 +1,8 @@
 -- Levels after the pump stops (document 02, N14): what holds of a record that 14 does not refuse and of a list of calls on it in which every step has
 -- rate 0, in what the readings give.
 -- Units: D and mark µm; losses and totals nl; Δt µs.
-use Rattle.std.specs.Prelude.{◌≡◌, Bool, true, ℕ, ℤ, neg_ℤ, ◌+ℤ◌, ◌-ℤ◌, eqb, ◌≤ℤ◌, Ok, Err}
-use mathlib.Core.List.{List, [], ◌∷◌, map, flat_map}
+use Rattle.std.specs.Prelude.{◌≡◌, ℕ, Bool, true, eqb, List, [], ◌∷◌, map, ℤ, ◌+ℤ◌, ◌-ℤ◌, neg_ℤ, ◌≤ℤ◌, Ok, Err}
+use mathlib.Core.List.{flat_map}
 use Rattle.refusals.specs.declared.Refusal.{Refusal}
 use Rattle.laws.specs.Lists.{larger}
 use Rattle.network.specs.Network.{drawdown}

@@ -1,11 +1,8 @@
 -- The same calls are equal calls, and the records after each call: laws only, nothing to believe.
 --     same_calls     the same list of calls is an equal list; same_itself: any list of calls is the same as itself
 --     after_each     the records after each call are those that the calls up to it leave
-use mathlib.Core.Path.{◌≡◌, refl, ap, ap₂}
-use mathlib.Core.List.{List, [], ◌∷◌, get_last_d}
-use Prim.Native.Nat.{ℕ, zero, suc, ◌<◌}
-use native.Mathlib.Omega.{arith}
-use lib.ListN.{length, get_or, take}
+use Rattle.std.proofs.Common.{◌≡◌, ℕ, zero, suc, ◌<◌, List, [], ◌∷◌, length, get_or, take, refl, ap, ap₂, arith}
+use mathlib.Core.List.{get_last_d}
 use Rattle.record.specs.declared.Record.{Record}
 use Rattle.ledger.specs.Calls.{drawdown, budget, loss, flow, deep, same, same_as, head_loss, limiting, Call, step, read, left, left_by_all}
 use Rattle.ledger_same.specs.SameCalls.{SameCall, same_step, same_drawdown, same_budget, same_loss, same_flow, same_deep, same_same, same_same_as, same_head_loss, same_limiting, SameCalls, none, further, records_after, AfterEach}

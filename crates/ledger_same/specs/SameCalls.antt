@@ -1,7 +1,7 @@
 -- The same list of calls, made on one record and on another (document 02, N10): with equal arguments beside the record, each on the record that the last
 -- one left.
-use Rattle.std.specs.Prelude.{◌≡◌, ℕ, suc, ◌<◌, length, get_or, take}
-use mathlib.Core.List.{List, [], ◌∷◌, get_last_d}
+use Rattle.std.specs.Prelude.{◌≡◌, ℕ, suc, ◌<◌, List, [], ◌∷◌, length, get_or, take}
+use mathlib.Core.List.{get_last_d}
 use Rattle.record.specs.declared.Record.{Record}
 use Rattle.readings.specs.declared.Place.{Place}
 use Rattle.ledger.specs.Calls.{drawdown, budget, loss, flow, deep, same, same_as, head_loss, limiting, Call, step, read, left, left_by_all}

@@ -3,11 +3,9 @@
 --     counted, network_is    so the scenario's counts are within their limits, and the network of r is the scenario's
 --     screen_is, ..          and so is C of each face: of the well and a screened layer, of two columns (across_is), of two layers (down_is)
 --     begun                  the record that start gives for an accepted text carries the scenario at rest; begun_record: that record whole
-use Rattle.std.specs.Prelude.{◌≡◌, refl, Bool, true, not, ◌&&◌, List, ℕ, suc, ◌+◌, ◌≤◌, ◌<◌, eqb, pos, length, drop, Ok}
-use Rattle.std.proofs.Math.Path.{sym}
-use Rattle.std.proofs.Common.{ap, ◌∙◌, zero-le, arith, length-drop, get_or-drop}
-use Rattle.std.proofs.Math.Bool.{cond, or-true}
-use borrow.Author.Tests.{eq-eqb, not-false}
+use Rattle.std.proofs.Common.{◌≡◌, ℕ, suc, ◌+◌, ◌<◌, ◌≤◌, Bool, true, cond, not, ◌&&◌, eqb, List, length, drop, pos, Ok, sym, refl, ap, ◌∙◌, zero-le, arith, length-drop, get_or-drop, eq-eqb}
+use Rattle.std.proofs.Math.Bool.{or-true}
+use borrow.Author.Tests.{not-false}
 use Rattle.std.proofs.Math.ListN.{get_or-eq_default}
 use Rattle.std.specs.Int.Signed.{≤ℤ_refl}
 use Rattle.laws.specs.All.{and_left}

@@ -3,12 +3,8 @@
 --     outcome_is     so its outcome has that number
 --     state_after     the state after it, where a refused step changes nothing
 --     carries_on     the record that it gives carries the scenario in that state; record_on: that record whole
-use Rattle.std.specs.Prelude.{◌≡◌, refl, eqb}
-use Rattle.std.proofs.Common.{sym, ap, ◌∙◌, arith, eq-eqb, ne_eqb}
-use Rattle.std.proofs.Math.Path.{ap₂, subst}
-use Rattle.std.proofs.Math.Bool.{cond}
-use Prim.Native.Nat.{ℕ, zero, suc}
-use Rattle.std.proofs.Math.ListN.{length, length-map}
+use Rattle.std.proofs.Common.{◌≡◌, ℕ, zero, suc, cond, eqb, length, sym, refl, ap, ◌∙◌, subst, ap₂, arith, eq-eqb, ne_eqb}
+use Rattle.std.proofs.Math.ListN.{length-map}
 use Rattle.refusals.specs.Refusals.{outcome_of}
 use Rattle.laws.specs.Lists.{first, range}
 use Rattle.laws.specs.Sums.{length-range}

@@ -1,7 +1,5 @@
 -- One step of many equal ones is the step.
-use mathlib.Core.Path.{◌≡◌, refl}
-use mathlib.Core.Bool.{Bool, true, false, cond}
-use Prim.Native.Nat.{ℕ, zero, suc}
+use Rattle.std.proofs.Common.{◌≡◌, ℕ, zero, suc, Bool, true, false, cond, refl}
 use Rattle.refusals.specs.Refusals.{refusal, given}
 use Rattle.record.specs.declared.Record.{Record}
 use Rattle.record.specs.Record.{answer_of, repeated_of}

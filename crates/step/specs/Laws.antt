@@ -1,10 +1,7 @@
 -- The answer of many equal steps: laws only, nothing to believe.
 --     repeat_14, repeat_none, repeat_refused, repeat_back   the answer by what was judged and run, as it is read back
 --     ran_ready       where 14, 7 and 8 let the first step pass, they would let one more pass after the last
-use Rattle.std.specs.Prelude.{◌≡◌, true, false, ℤ, Ok, Err}
-use Rattle.std.proofs.Math.Path.{sym, ap}
-use Rattle.std.proofs.Common.{◌∙◌, arith}
-use Prim.Native.Nat.{ℕ, zero, suc, ◌<◌}
+use Rattle.std.proofs.Common.{◌≡◌, ℕ, zero, suc, ◌<◌, true, false, ℤ, Ok, Err, sym, ap, ◌∙◌, arith}
 use Rattle.refusals.specs.declared.Refusal.{Refusal}
 use Rattle.refusals.specs.Refusals.{refusal, given, outcome_of}
 use Rattle.record.specs.declared.Record.{Record}

@@ -9,12 +9,12 @@ use record::{Answer, Record, Repeated};
 use refusals::Refusal;
 
 // The record handed in: no step is taken.
-fn unmoved(outcome: Result<(), Refusal>, record: Record) -> Repeated
-    ensures { result ≡ (record { outcome = outcome; «record» = «record»; taken = 0 }) }
+fn unmoved(outcome: Result<(), Refusal>, rec: Record) -> Repeated
+    ensures { result ≡ (record { outcome = outcome; «record» = rec; taken = 0 }) }
 {
     Repeated {
         outcome,
-        record,
+        record: rec,
         taken: 0,
     }
 }

@@ -6,19 +6,8 @@
 --     well_back, inflow_back, mark_back     what the machine reads back of the course
 --     stepped           what `step_judged::advance` gives is the step's answer; course_kept: with the well's D in its course
 --     scratch_zeros     arrays of zeros, and C itself, may be worked in
-use Rattle.std.specs.Prelude.{Err}
-use mathlib.Core.Path.{◌≡◌, refl, sym, ap, ◌∙◌}
-use mathlib.Core.Bool.{true, false, not}
-use mathlib.Core.List.{List}
-use Prim.Native.Nat.{ℕ, zero, suc, ◌+◌, ◌*◌, ◌-◌, ◌≤◌, ◌<◌}
-use native.Mathlib.Omega.{arith}
-use lib.Dec.{eqb, ltb}
-use lib.IntN.{ℤ, pos}
-use lib.ListN.{get_or, replicate, length-replicate}
-use lib.Signed.{◌≤ℤ◌}
-use borrow.Author.Tests.{ltb-false}
-use mir.Syntax.{w64}
-use mir.Val.{to_z, of_z}
+use Rattle.std.proofs.Common.{◌≡◌, ℕ, zero, suc, ◌+◌, ◌-◌, ◌*◌, ◌<◌, ◌≤◌, true, false, not, eqb, ltb, List, get_or, replicate, ℤ, pos, ◌≤ℤ◌, Err, sym, refl, ap, ◌∙◌, arith, w64, to_z, of_z, ltb-false}
+use lib.ListN.{length-replicate}
 use Rattle.laws.specs.Fill.{get_or_same}
 use Rattle.laws.specs.Integer as integer
 use Rattle.laws.specs.Lists.{first}

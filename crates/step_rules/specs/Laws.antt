@@ -4,15 +4,9 @@
 --     same_state       and that state, where the state has one loss for each place
 --     taken            a step that 14 and 7 to 11 let pass is one that the network's conditions do; state_is: the state that it gives
 --     step_valid       so 14 does not refuse the record that a step taken gives
-use Rattle.std.specs.Prelude.{◌≡◌, Bool, cond, not, ◌||◌, ℤ, nat_abs, length, ◌≤ℤ◌}
-use Rattle.std.proofs.Math.Path.{refl, sym, ap, ap₂, subst}
-use Rattle.std.proofs.Common.{◌∙◌, zero-add, arith}
-use Rattle.std.proofs.Math.Bool.{true, false}
-use Prim.Native.Nat.{ℕ, zero, suc, ◌+◌, ◌*◌, ◌-◌, ◌/◌, ◌%◌, ◌<◌}
-use Rattle.std.proofs.Math.IntN.{pos}
-use Rattle.std.proofs.Math.ListN.{get_or}
+use Rattle.std.proofs.Common.{◌≡◌, ℕ, zero, suc, ◌+◌, ◌-◌, ◌*◌, ◌/◌, ◌%◌, ◌<◌, Bool, true, false, cond, not, ◌||◌, length, get_or, ℤ, pos, nat_abs, ◌≤ℤ◌, sym, refl, ap, ◌∙◌, subst, ap₂, zero-add, arith, lt-ltb}
 use Rattle.refusals.specs.Refusals.{outcome_of}
-use borrow.Author.Tests.{lt-ltb, not-false}
+use borrow.Author.Tests.{not-false}
 use Rattle.laws.specs.Integer.{natural, ≤ℤ_trans, not_past, larger_bounds}
 use Rattle.laws.specs.Lists.{larger}
 use Rattle.laws.specs.Refusal.{passed}

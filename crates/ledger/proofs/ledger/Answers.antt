@@ -1,9 +1,6 @@
 -- Demand 3 over every run.
-use Rattle.std.specs.Prelude.{Ok}
-use mathlib.Core.Path.{◌≡◌, ap, ◌∙◌}
-use mathlib.Core.List.{List, []}
-use Prim.Native.Nat.{ℕ}
-use lib.IntN.{pos, ◌-ℤ◌, +ℤ_idl}
+use Rattle.std.proofs.Common.{◌≡◌, ℕ, List, [], pos, ◌-ℤ◌, Ok, ap, ◌∙◌}
+use lib.IntN.{+ℤ_idl}
 use Rattle.laws.specs.Lists.{ifℤ}
 use Rattle.network.specs.Network.{at_rest, loss_in}
 use Rattle.network.specs.Grid.{network_of}

@@ -1,9 +1,5 @@
 -- Levels after the pump stops, from any record that 14 does not refuse.
-use mathlib.Core.Path.{◌≡◌, refl, sym, ap, ◌∙◌}
-use mathlib.Core.Bool.{true}
-use mathlib.Core.List.{List}
-use Prim.Native.Nat.{ℕ}
-use lib.IntN.{pos, neg_ℤ, ◌-ℤ◌}
+use Rattle.std.proofs.Common.{◌≡◌, ℕ, true, List, pos, ◌-ℤ◌, neg_ℤ, sym, refl, ap, ◌∙◌}
 use Rattle.laws.specs.Lists.{every}
 use Rattle.record.specs.declared.Record.{Record}
 use Rattle.record.specs.Record.{state_of}

@@ -1,11 +1,6 @@
 -- Two records of which `same` says yes are equal, and so are the drawdowns read of them; and document 01's rule says yes exactly where these are.
-use Rattle.std.specs.Prelude.{Ok}
-use mathlib.Core.Path.{◌≡◌, refl, sym, ap, subst, ◌∙◌}
-use mathlib.Core.Bool.{Bool, true, false, ◌&&◌, ◌||◌, false≢true}
-use Prim.Native.Nat.{ℕ, ◌<◌}
-use borrow.Author.Tests.{eqb-true, eq-eqb}
-use lib.Dec.{eqb}
-use lib.IntN.{ℤ}
+use Rattle.std.proofs.Common.{◌≡◌, ℕ, ◌<◌, Bool, true, false, ◌&&◌, ◌||◌, eqb, ℤ, Ok, sym, refl, ap, ◌∙◌, subst, eq-eqb, eqb-true}
+use mathlib.Core.Bool.{false≢true}
 use Rattle.refusals.specs.Refusals.{given}
 use Rattle.refusals.specs.Laws.{value_given}
 use Rattle.laws.specs.All.{all_at}

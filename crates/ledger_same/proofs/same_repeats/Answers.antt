@@ -1,5 +1,5 @@
 -- Two records of which `same` says yes are equal, and so is what `repeat` makes of them.
-use mathlib.Core.Path.{ap}
+use Rattle.std.proofs.Common.{ap}
 use Rattle.refusals.specs.Refusals.{given}
 use Rattle.step.specs.Repeat.{repeat_of}
 use Rattle.readings.proofs.SameLaws.{same_answer}

@@ -1,5 +1,5 @@
 -- Two records of which `same` says yes are equal, and so is all that is made of them.
-use mathlib.Core.Path.{ap₂}
+use Rattle.std.proofs.Common.{ap₂}
 use Rattle.refusals.specs.Refusals.{given}
 use Rattle.ledger.specs.Calls.{replies_to}
 use Rattle.readings.proofs.SameLaws.{same_answer}
