@@ -1,8 +1,7 @@
 -- What is known of a scenario in its limits and of its columns' areas, for the proofs of this and other crates: laws only, nothing to believe.
 --     judged_site     what the tests of 2, 3 and 4 say
 --     areas_of_lem        the array of areas holds A_j of each column before the last
-use Rattle.std.specs.Prelude.{◌≡◌, true, ℕ, zero, suc, ◌^◌, ◌≤◌, ◌<◌, get_or, replicate}
-use Rattle.std.proofs.Common.{arith}
+use Rattle.std.proofs.Common.{◌≡◌, true, ℕ, zero, suc, ◌^◌, ◌≤◌, ◌<◌, get_or, replicate, arith}
 use Rattle.std.proofs.Math.ListN.{length-replicate}
 use Rattle.laws.specs.Fill.{get_or-fill}
 use Rattle.limits.specs.Limits.{column_places}

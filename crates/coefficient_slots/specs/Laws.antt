@@ -5,15 +5,10 @@
 --     coefficients_ext     grids whose C and S pass the limits alike (Alike) pass the test alike
 --     unused_slots         UnusedSlots: what the test of unused slots says of each slot
 --     slots-coefficients   the test of a record's slots is that of its coefficients and of its unused slots
-use Rattle.std.specs.Prelude.{◌≡◌, Bool, ◌||◌, get_or}
-use Rattle.std.proofs.Math.Path.{refl, sym, ap, ap₂}
-use Rattle.std.proofs.Common.{subst, ◌∙◌, arith}
-use Rattle.std.proofs.Math.Bool.{true, false, cond, ◌&&◌, and-true}
+use Rattle.std.proofs.Common.{◌≡◌, Bool, ◌||◌, get_or, refl, sym, ap, ap₂, subst, ◌∙◌, arith, true, false, cond, ◌&&◌, List, [], ◌∷◌, ◌++◌, map, ℕ, zero, suc, ◌+◌, ◌-◌, ◌/◌, ◌%◌, ◌≤◌, ◌<◌, zero-le, leb-true, ltb-true, lt-ltb, le-leb, leb, ltb, eqb}
+use mathlib.Core.List.{flat_map}
+use Rattle.std.proofs.Math.Bool.{and-true}
 use Rattle.std.proofs.lemmas.Bool.{false≢true}
-use mathlib.Core.List.{List, [], ◌∷◌, ◌++◌, map, flat_map}
-use Prim.Native.Nat.{ℕ, zero, suc, ◌+◌, ◌-◌, ◌/◌, ◌%◌, ◌≤◌, ◌<◌, zero-le}
-use borrow.Author.Tests.{leb-true, ltb-true, lt-ltb, le-leb}
-use Rattle.std.proofs.Math.Dec.{leb, ltb, eqb}
 use Rattle.laws.specs.Lists.{all_below, every, range}
 use Rattle.laws.specs.All.{all_at, and_left, and_right}
 use Rattle.laws.specs.Every.{every_append}

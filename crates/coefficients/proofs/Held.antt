@@ -1,15 +1,7 @@
 -- What the test of the slots says, whose numbers are capped: it is that of 6, and where it holds no number was capped.
-use mathlib.Core.Path.{◌≡◌, refl, sym, ap, ◌∙◌}
-use mathlib.Core.Bool.{Bool, true, false, cond, ◌&&◌, and-true, and-false}
-use mathlib.Core.List.{List}
-use mathlib.Core.Logic.{⊎_elim}
-use Prim.Native.Nat.{ℕ, suc, ◌+◌, ◌-◌, ◌/◌, ◌%◌, ◌^◌, ◌≤◌, ◌<◌}
-use native.Mathlib.Omega.{arith}
-use borrow.Author.Tests.{lt-leb, ltb-true}
-use lib.Dec.{leb, ltb}
-use lib.IntN.{pos}
-use lib.ListN.{replicate}
-use Rattle.std.specs.Prelude.{Some, None}
+use Rattle.std.proofs.Common.{◌≡◌, refl, sym, ap, ◌∙◌, Bool, true, false, cond, ◌&&◌, List, ⊎_elim, ℕ, suc, ◌+◌, ◌-◌, ◌/◌, ◌%◌, ◌^◌, ◌≤◌, ◌<◌, arith, ltb-true, leb, ltb, pos, replicate, Some, None}
+use mathlib.Core.Bool.{and-true, and-false}
+use borrow.Author.Tests.{lt-leb}
 use Rattle.laws.specs.All.{and_left, and_right}
 use Rattle.laws.specs.Number.{below_or_not}
 use Rattle.laws.specs.Ranges.{map-range_ext}

@@ -1,6 +1,5 @@
 -- What an array filled whole is.
-use Rattle.std.proofs.Common.{◌≡◌, ◌∙◌, ℕ, List, replicate}
-use Rattle.std.specs.Prelude.{map}
+use Rattle.std.proofs.Common.{◌≡◌, ◌∙◌, ℕ, List, replicate, map}
 use Rattle.laws.specs.Lists.{range}
 use Rattle.laws.specs.Fill.{fill, fill-range}
 

@@ -2,17 +2,8 @@
 --     start_network        its network is the scenario's
 --     start_state          its state is that of a network at rest
 --     screen_at_lem, ..        the coefficients of a grid that a record of slots (slotted) holds; slotted_unused: the slots that none uses
-use Rattle.std.specs.Prelude.{◌≡◌, ◌||◌, ℤ}
-use Rattle.std.proofs.Math.Path.{refl, ap, ap₂}
-use Rattle.std.proofs.Common.{sym, ◌∙◌, zero-add, add_comm, arith}
-use Rattle.std.proofs.Math.Bool.{Bool, true, false, cond}
-use mathlib.Core.List.{List, [], ◌∷◌, ◌++◌, map, flat_map}
-use Prim.Native.Nat.{ℕ, zero, suc, ◌+◌, ◌*◌, ◌-◌, ◌/◌, ◌%◌, ◌≤◌, ◌<◌}
-use Rattle.std.proofs.Math.Numerals.{add-one}
-use borrow.Author.Tests.{lt-ltb, eq-eqb}
-use Rattle.std.proofs.Math.Dec.{eqb}
-use Rattle.std.proofs.Math.IntN.{pos}
-use Rattle.std.proofs.Math.ListN.{get_or, replicate}
+use Rattle.std.proofs.Common.{◌≡◌, ◌||◌, ℤ, refl, ap, ap₂, sym, ◌∙◌, zero-add, add_comm, arith, Bool, true, false, cond, List, [], ◌∷◌, ◌++◌, map, ℕ, zero, suc, ◌+◌, ◌*◌, ◌-◌, ◌/◌, ◌%◌, ◌≤◌, ◌<◌, add-one, lt-ltb, eq-eqb, eqb, pos, get_or, replicate}
+use mathlib.Core.List.{flat_map}
 use Rattle.laws.specs.Fill.{get_or_same}
 use Rattle.laws.specs.Ranges.{map-range_ext, flat_map-range_ext, map-range_same, flat_map-range_same}
 use Rattle.laws.specs.Lists.{range, all_below}

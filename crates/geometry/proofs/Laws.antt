@@ -1,17 +1,8 @@
 -- The terms of a logarithm's series, the two cases of a logarithm, and how large the numbers of the rules are.
-use mathlib.Core.Path.{◌≡◌, refl, sym}
-use mathlib.Core.Bool.{cond, ◌||◌, or-true}
-use lib.Dec.{eqb}
+use Rattle.std.proofs.Common.{◌≡◌, refl, lt-ltb, le-ltb, ℕ, zero, suc, ◌+◌, ◌*◌, ◌-◌, ◌/◌, ◌^◌, ◌<◌, ◌≤◌, le_trans, add-le-add, div-mul-le_self, mul-le-mul, div-one, le-div_iff_mul-le, add-one, arith}
 use Rattle.limits.specs.Limits.{midsection_factor}
-use Rattle.words.specs.Fitted.{fitted}
-use Rattle.words.specs.Laws.{fitted-word}
-use Rattle.std.specs.Prelude.{Some}
-use borrow.Author.Tests.{eq-eqb, lt-ltb, le-ltb}
-use Prim.Native.Nat.{ℕ, zero, suc, ◌+◌, ◌*◌, ◌-◌, ◌/◌, ◌^◌, ◌<◌, ◌≤◌}
 use native.Mathlib.Decide.{dec_lt}
-use native.Mathlib.Nat.{le_trans, add-le-add, div-le_of_le-mul, div-mul-le_self, div-eq_of_eq-mul_left, mul-le-mul, div-one, le-div_iff_mul-le}
-use native.Mathlib.Numerals.{add-one}
-use native.Mathlib.Omega.{arith}
+use native.Mathlib.Nat.{div-le_of_le-mul, div-eq_of_eq-mul_left}
 use Rattle.geometry.specs.Geometry.{terms, ratio, series_logarithm, logarithm_of_three, logarithm}
 
 -- the term numbered k, and those after it
@@ -100,13 +91,6 @@ logarithm_most p q h r = elim (dec_lt (3 * q) p) [
 -- a product of two bounded factors is bounded
 pub product_at_most : (m n : ℕ) {a b : ℕ} → a ≤ m → b ≤ n → a * b ≤ m * n
 product_at_most m n ha hb = mul-le-mul ha hb
-
--- ---- the vertical C: of two layers of which one lets no water through, and of others
-pub closed_above : (kv₁ kv₂ n : ℕ) → kv₁ ≡ 0 → Some 0 ≡ fitted (cond (eqb kv₁ 0 || eqb kv₂ 0) 0 n)
-closed_above kv₁ kv₂ n e = rw (eq-eqb kv₁ 0 e) (sym (fitted-word (omega arith)))
-
-pub closed_below : (kv₁ kv₂ n : ℕ) → kv₂ ≡ 0 → Some 0 ≡ fitted (cond (eqb kv₁ 0 || eqb kv₂ 0) 0 n)
-closed_below kv₁ kv₂ n e = rw (eq-eqb kv₂ 0 e, or-true (eqb kv₁ 0)) (sym (fitted-word (omega arith)))
 
 -- ---- areas
 pub square_at_most : (b : ℕ) {a : ℕ} → a ≤ b → a * a ≤ b * b

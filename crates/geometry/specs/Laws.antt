@@ -1,10 +1,8 @@
 -- Laws of the rules of geometry, for the proofs of this and other crates: laws only, nothing to believe.
 --     area_is, area_most     an area by products of radii, and how large it is
 --     from_table_le          C between layers 1 and 2 is the largest at s = 0
-use Rattle.std.specs.Prelude.{◌≡◌, refl, Bool, true, false, cond, ◌||◌, ℕ, ◌+◌, ◌*◌, ◌-◌, ◌/◌, ◌^◌, ◌≤◌, ◌<◌, eqb}
-use Rattle.std.proofs.Math.Path.{ap}
-use Rattle.std.proofs.Common.{◌∙◌, le_refl, mul-pos, mul-le-mul, zero-mul, zero-add, div-mul-le_self, le-div_iff_mul-le, arith}
-use Rattle.std.proofs.Math.Nat.{mul-one, pow-zero, pow-succ', div-le_of_le-mul}
+use Rattle.std.proofs.Common.{◌≡◌, refl, Bool, true, false, cond, ◌||◌, ℕ, ◌+◌, ◌*◌, ◌-◌, ◌/◌, ◌^◌, ◌≤◌, ◌<◌, eqb, ap, ◌∙◌, le_refl, mul-pos, mul-le-mul, zero-mul, zero-add, div-mul-le_self, le-div_iff_mul-le, arith, mul-one}
+use Rattle.std.proofs.Math.Nat.{pow-zero, pow-succ', div-le_of_le-mul}
 use Rattle.std.proofs.lemmas.Bool.{eqb-false}
 use Rattle.laws.specs.Sums.{or_no}
 use Rattle.geometry.specs.Geometry.{area, from_table}

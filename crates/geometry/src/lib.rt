@@ -52,6 +52,7 @@ pub fn logarithm_cases()
 {}
 
 // Area of a column between two radii, mm²: below 2^44 for radii in their limits.
+#[tactic(auto, using(crate::specs::Laws::area_is, crate::specs::Laws::area_most))]
 pub fn area(outer: u64, inner: u64) -> u64
     requires { (inner ≤ outer) × (outer ≤ 2000000) }
     ensures { (result ≡ area outer inner) × (result ≤ 2 ^ 44) }
@@ -60,6 +61,7 @@ pub fn area(outer: u64, inner: u64) -> u64
 }
 
 // Horizontal C of a layer between two columns, of which `log` is the logarithm of their midsection radii.
+#[tactic(auto, unfolding(crate::specs::Geometry::horizontal))]
 pub fn horizontal(b: u64, kh: u64, log: u64) -> Option<u64>
     requires { (b ≤ 1000000) × (kh ≤ 100000000) × (0 < log) }
     ensures { result ≡ fitted (horizontal b kh log) }
@@ -68,20 +70,19 @@ pub fn horizontal(b: u64, kh: u64, log: u64) -> Option<u64>
 }
 
 // A quotient with the conductivities of both layers in its dividend: 0 if either lets no water through, where the divisor may be 0.
+#[tactic(auto, unfolding(words::specs::Fitted::fitted))]
 fn through_both(a: u64, kv1: u64, kv2: u64, d: u64) -> Option<u64>
     requires { (kv1 ≤ 100000000) × (kv2 ≤ 100000000) × (0 < kv1 → 0 < kv2 → 0 < d) }
     ensures { result ≡ fitted (cond (eqb kv1 0 || eqb kv2 0) 0 (a * kv1 * kv2 / d)) }
 {
-    if kv1 == 0 {
-        return Some(0);
-    }
-    if kv2 == 0 {
+    if kv1 == 0 || kv2 == 0 {
         return Some(0);
     }
     quotient(a, kv1 * kv2, d)
 }
 
 // Vertical C over an area between a layer below layer 1, of b1 and kv1, and the next one; 0 if either lets no water through.
+#[tactic(auto, unfolding(crate::specs::Geometry::vertical))]
 pub fn vertical(a: u64, b1: u64, kv1: u64, b2: u64, kv2: u64) -> Option<u64>
     requires { (a ≤ 2 ^ 44) × (0 < b1) × (b1 ≤ 1000000) × (kv1 ≤ 100000000) × (b2 ≤ 1000000) × (kv2 ≤ 100000000) }
     ensures { result ≡ fitted (vertical a b1 kv1 b2 kv2) }
@@ -90,6 +91,7 @@ pub fn vertical(a: u64, b1: u64, kv1: u64, b2: u64, kv2: u64) -> Option<u64>
 }
 
 // Vertical C over an area between layers 1 and 2, where the water table is s µm above the bottom of layer 1; 0 if either lets no water through.
+#[tactic(auto, unfolding(crate::specs::Geometry::from_table))]
 pub fn from_table(a: u64, kv1: u64, b2: u64, kv2: u64, s: u64) -> Option<u64>
     requires { (a ≤ 2 ^ 44) × (kv1 ≤ 100000000) × (0 < b2) × (b2 ≤ 1000000) × (kv2 ≤ 100000000) × (s ≤ 1000000000) }
     ensures { result ≡ fitted (from_table a kv1 b2 kv2 s) }
@@ -99,11 +101,13 @@ pub fn from_table(a: u64, kv1: u64, b2: u64, kv2: u64, s: u64) -> Option<u64>
 
 // That C where Kv_1 and Kv_2 differ, by the figure that is worked by hand in `cases` Table: over 753982 mm², with Kv_1 10000, b_2 2000, Kv_2 40000 and s 8000000.
 // A theorem, and no code.
+#[tactic(auto, unfolding(crate::specs::Geometry::from_table))]
 pub fn table_case()
     ensures { from_table 753982 10000 2000 40000 8000000 ≡ 913917 }
 {}
 
 // S of a cell of layer 1.
+#[tactic(auto, unfolding(crate::specs::Geometry::unconfined_storage))]
 pub fn unconfined_storage(a: u64, y: u64) -> Option<u64>
     ensures { result ≡ fitted (unconfined_storage a y) }
 {
@@ -111,6 +115,7 @@ pub fn unconfined_storage(a: u64, y: u64) -> Option<u64>
 }
 
 // S of a cell below layer 1.
+#[tactic(auto, unfolding(crate::specs::Geometry::confined_storage))]
 pub fn confined_storage(a: u64, b: u64, storage: u64) -> Option<u64>
     requires { (b ≤ 1000000) × (storage ≤ 1000000) }
     ensures { result ≡ fitted (confined_storage a b storage) }
@@ -119,6 +124,7 @@ pub fn confined_storage(a: u64, b: u64, storage: u64) -> Option<u64>
 }
 
 // S of the well.
+#[tactic(auto, unfolding(crate::specs::Geometry::well_storage))]
 pub fn well_storage(w: u64) -> u64
     requires { w ≤ 1000000000 }
     ensures { result ≡ well_storage w }

@@ -1,8 +1,7 @@
 -- Laws of `fitted`, for the proofs of callers; nothing here is to be believed.
 --     fitted-word, fitted_over   what it gives for a number
 --     word-fitted, over_fitted   what the number is, from what it gives
-use Rattle.std.specs.Prelude.{◌≡◌, ℕ, ◌^◌, ◌<◌, ◌≤◌, Some, None}
-use Rattle.std.proofs.Common.{⊎_elim, lt-ltb, le-ltb}
+use Rattle.std.proofs.Common.{◌≡◌, ℕ, ◌^◌, ◌<◌, ◌≤◌, Some, None, ⊎_elim, lt-ltb, le-ltb}
 use Rattle.laws.specs.Number.{below_or_not}
 use Rattle.words.specs.Fitted.{fitted}
 
