@@ -30,12 +30,7 @@ fn slot_holds(layers: usize, columns: usize, lo: u64, hi: u64, k: usize, value: 
 fn slots_hold(layers: usize, columns: usize, values: &[u64; CELL_PLACES], lo: u64, hi: u64) -> bool
     ensures { result ≡ array_holds layers columns lo hi values.now }
 {
-    for (k, value) in values.iter().enumerate() {
-        if !slot_holds(layers, columns, lo, hi, k, *value) {
-            return false;
-        }
-    }
-    true
+    values.iter().enumerate().all(|(k, value)| slot_holds(layers, columns, lo, hi, k, *value))
 }
 
 #[tactic(auto, unfolding(crate::specs::Held::screen_slot_holds))]

@@ -1,21 +1,16 @@
--- `coefficient_slots::slots_hold`: every slot before the loop's place holds what it may.
-use Rattle.std.proofs.Common.{◌≡◌, sym, ◌∙◌, arith}
-use Rattle.laws.specs.All.{all_none, all_more, all_fails}
-use Rattle.coefficient_slots.specs.Held.{array_holds}
+-- `coefficient_slots::slots_hold`: what a chain's `all` gives is the test of every slot.
+use Rattle.std.proofs.Common.{◌∙◌, rules, tests}
+use Rattle.std.proofs.lemmas.Iterator.{YieldsList-from_slice}
+use Rattle.std.proofs.lemmas.Iterator.Consumers.{YieldsList-from_enumerate}
+use Rattle.std.proofs.lemmas.Iterator.Search.{all_from_yields_List}
+use Rattle.coefficient_slots.specs.Held.{slot_holds, array_holds}
+use Rattle.coefficient_slots.specs.Laws.{all_listed}
 use Rattle.coefficient_slots.proofs.slots_hold.Goals as goal
-
-pub loop-k-init : goal.loop-k-init
-loop-k-init c = all_none _
-
-pub returns-then-not-slot_holds : goal.returns-then-not-slot_holds
-unfolding array_holds
-returns-then-not-slot_holds c = sym (all_fails _ 1000 c.loop-k.k (omega arith) (sym c.slot_holds.ensures ∙ c.if-not-slot_holds.true))
-
-pub loop-k-preserved : goal.loop-k-preserved
-loop-k-preserved c = all_more _ c.loop-k.k c.loop-k.invariant (sym c.slot_holds.ensures ∙ c.if-not-slot_holds.false)
 
 pub returns : goal.returns
 unfolding array_holds
 returns c =
-    let e : c.loop-k.k ≡ 1000 = omega arith in
-    sym (rw e at c.loop-k.invariant)
+    let a = c.args in
+    all_from_yields_List (λ p. slot_holds a.layers a.columns a.lo a.hi p.0 p.1) _ _ c.all.result c.all.ensures.ran
+    (YieldsList-from_enumerate (YieldsList-from_slice a.values.now cc) cc) (λ x b q k. search (rules, tests))
+    ∙ all_listed 0 (slot_holds a.layers a.columns a.lo a.hi) a.values.now 1000 (search rules)
