@@ -43,11 +43,11 @@ pub fn well_too_deep(intake: u64, well_storage: u64, well_loss: i64) -> bool
 }
 
 // 11: a D in layer 1 passes 1000×b_1, with the thickness b_1 in mm.
-pub fn table_too_deep<'a>(
+pub fn table_too_deep(
     columns: usize,
     thickness: u64,
-    storages: &'a [u64; CELL_PLACES],
-    losses: &'a [i64; CELL_PLACES],
+    storages: &[u64; CELL_PLACES],
+    losses: &[i64; CELL_PLACES],
 ) -> bool
     requires { (columns ≤ 50) × (1000 * thickness ≤ drawdown_limit) × Filled (columns - 1) storages.now losses.now }
     ensures { result ≡ not (table_within columns thickness storages.now losses.now) }

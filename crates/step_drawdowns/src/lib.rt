@@ -24,6 +24,7 @@ pub fn drawdown(v: i64, s: u64) -> u64
 }
 
 // The multiplier of a storage, 10^6 × 2^64 / S; 0 for one up to 10^6, where it would pass a word.
+// no plainer as an Option: 0 stands for none, so that an array of multipliers has one word a slot
 pub fn multiplier(s: u64) -> u64
     ensures { Stands result s }
 {
