@@ -1,2 +1,2 @@
 pub mod Runs
-pub mod Bounded
+pub mod Time

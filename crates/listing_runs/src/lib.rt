@@ -11,10 +11,8 @@ pub fn run_entry(record: Record, rate: u64, length: u64, repeats: u64) -> Answer
     ensures { result ≡ run_of «record» rate length repeats }
 {
     let repeated = step::repeat(record, rate, length, repeats);
-    let outcome = repeated.outcome;
-    let after = repeated.record;
     Answer {
-        outcome,
-        record: after,
+        outcome: repeated.outcome,
+        record: repeated.record,
     }
 }
