@@ -15,6 +15,7 @@ use geometry::well_storage;
 use limits::{CELL_PLACES, COLUMN_PLACES, LAYER_PLACES};
 use record::Record;
 use site::Site;
+use std::array;
 
 // C of layer i between the well and column 1, if the layer is screened.
 #[tactic(auto, unfolding(coefficient_cells::specs::Worked::slot_of, record::specs::Record::is_cell, record::specs::Record::has_screen, site::specs::Site::is_screened))]
@@ -33,46 +34,31 @@ fn screen_of(site: Site, logarithms: &[u64; COLUMN_PLACES]) -> [u64; LAYER_PLACE
     requires { InLimits site × Logarithms site logarithms.now }
     ensures { result ≡ layer_slots (λ i. slot_of (has_screen site i) (across_of site i 0)) }
 {
-    let mut screen = [0; LAYER_PLACES];
-    for i in 0..LAYER_PLACES {
-        screen[i] = at_well(site, logarithms, i);
-    }
-    screen
+    array::from_fn(|i| at_well(site, logarithms, i))
 }
 
-// The coefficients of the cells, each in its slot.
-#[derive(Clone, Copy)]
-struct Cells {
-    horizontal: [u64; CELL_PLACES],
-    vertical: [u64; CELL_PLACES],
-    storages: [u64; CELL_PLACES],
-}
-
-fn cells_of<'a>(
-    site: Site,
-    logarithms: &'a [u64; COLUMN_PLACES],
-    areas: &'a [u64; COLUMN_PLACES],
-) -> Cells
-    requires { InLimits site × Logarithms site logarithms.now × Areas site areas.now }
-    ensures { (result.horizontal ≡ slots (λ i j. slot_of (is_cell site i j) (across_of site i j)))
-        × (result.vertical ≡ slots (λ i j. slot_of (has_below site i j) (down_of site i j)))
-        × (result.storages ≡ slots (λ i j. slot_of (is_cell site i j) (storage_of site i j))) }
+// C between the columns, each in its cell's slot.
+fn horizontal_of(site: Site, logarithms: &[u64; COLUMN_PLACES]) -> [u64; CELL_PLACES]
+    requires { InLimits site × Logarithms site logarithms.now }
+    ensures { result ≡ slots (λ i j. slot_of (is_cell site i j) (across_of site i j)) }
 {
-    let mut horizontal = [0; CELL_PLACES];
-    let mut vertical = [0; CELL_PLACES];
-    let mut storages = [0; CELL_PLACES];
-    for k in 0..CELL_PLACES {
-        let i = k / COLUMN_PLACES;
-        let j = k % COLUMN_PLACES + 1;
-        horizontal[k] = across(site, logarithms, i, j);
-        vertical[k] = down(site, areas, i, j);
-        storages[k] = storage(site, areas, i, j);
-    }
-    Cells {
-        horizontal,
-        vertical,
-        storages,
-    }
+    array::from_fn(|k| across(site, logarithms, k / COLUMN_PLACES, k % COLUMN_PLACES + 1))
+}
+
+// C between the layers, each in the slot of the cell above.
+fn vertical_of(site: Site, areas: &[u64; COLUMN_PLACES]) -> [u64; CELL_PLACES]
+    requires { InLimits site × Areas site areas.now }
+    ensures { result ≡ slots (λ i j. slot_of (has_below site i j) (down_of site i j)) }
+{
+    array::from_fn(|k| down(site, areas, k / COLUMN_PLACES, k % COLUMN_PLACES + 1))
+}
+
+// S of the cells, each in its slot.
+fn storages_of(site: Site, areas: &[u64; COLUMN_PLACES]) -> [u64; CELL_PLACES]
+    requires { InLimits site × Areas site areas.now }
+    ensures { result ≡ slots (λ i j. slot_of (is_cell site i j) (storage_of site i j)) }
+{
+    array::from_fn(|k| storage(site, areas, k / COLUMN_PLACES, k % COLUMN_PLACES + 1))
 }
 
 // The record at the start, if rule 6 does not refuse its coefficients.
@@ -82,17 +68,12 @@ pub fn coefficients_of(site: Site) -> Option<Record>
 {
     let logarithms = logarithms_of(site);
     let areas = areas_of(site);
-    let Cells {
-        horizontal,
-        vertical,
-        storages,
-    } = cells_of(site, &logarithms, &areas);
     let start = Record {
         site,
         screen: screen_of(site, &logarithms),
-        horizontal,
-        vertical,
-        storages,
+        horizontal: horizontal_of(site, &logarithms),
+        vertical: vertical_of(site, &areas),
+        storages: storages_of(site, &areas),
         losses: [0; CELL_PLACES],
         well_storage: well_storage(site.water_area),
         well_loss: 0,

@@ -15,10 +15,18 @@ areas_of-areas-requires c = judged_site _ c.requires.0 c.requires.1 c.requires.2
 pub screen_of-requires : goal.screen_of-requires
 screen_of-requires c = (judged_site _ c.requires.0 c.requires.1 c.requires.2, c.logarithms_of-logarithms.ensures)
 
-pub cells_of-requires : goal.cells_of-requires
-cells_of-requires c =
+pub horizontal_of-requires : goal.horizontal_of-requires
+horizontal_of-requires c = (judged_site _ c.requires.0 c.requires.1 c.requires.2, c.logarithms_of-logarithms.ensures)
+
+pub vertical_of-requires : goal.vertical_of-requires
+vertical_of-requires c =
     let within = judged_site _ c.requires.0 c.requires.1 c.requires.2 in
-    (within, c.logarithms_of-logarithms.ensures, rw c.areas_of-areas.ensures (areas_of_lem _ within))
+    (within, rw c.areas_of-areas.ensures (areas_of_lem _ within))
+
+pub storages_of-requires : goal.storages_of-requires
+storages_of-requires c =
+    let within = judged_site _ c.requires.0 c.requires.1 c.requires.2 in
+    (within, rw c.areas_of-areas.ensures (areas_of_lem _ within))
 
 pub well_storage-requires : goal.well_storage-requires
 well_storage-requires c = omega (arith, (numbers_hold_lem _ c.requires.1).well)
@@ -29,10 +37,10 @@ coefficients_hold-requires c = omega (arith, counts_hold_lem _ c.requires.0)
 
 pub returns-then-coefficients_hold : goal.returns-then-coefficients_hold
 returns-then-coefficients_hold c =
-    taken _ c.requires.0 c.screen_of.ensures c.cells_of.ensures.0 c.cells_of.ensures.1 c.cells_of.ensures.2
+    taken _ c.requires.0 c.screen_of.ensures c.horizontal_of.ensures c.vertical_of.ensures c.storages_of.ensures
     c.well_storage.ensures (sym c.coefficients_hold.ensures ∙ c.if-coefficients_hold.true)
 
 pub returns-else-coefficients_hold : goal.returns-else-coefficients_hold
 returns-else-coefficients_hold c =
-    refused _ c.requires.0 c.screen_of.ensures c.cells_of.ensures.0 c.cells_of.ensures.1 c.cells_of.ensures.2
+    refused _ c.requires.0 c.screen_of.ensures c.horizontal_of.ensures c.vertical_of.ensures c.storages_of.ensures
     c.well_storage.ensures (sym c.coefficients_hold.ensures ∙ c.if-coefficients_hold.false)

@@ -1,16 +1,11 @@
--- `coefficients::screen_of`: the slots before the loop's place are filled.
-use Rattle.std.proofs.Common.{sym, arith}
-use Rattle.laws.specs.Fill.{fill_none, fill_more}
-use Rattle.record.specs.Record.{layer_slots}
-use Rattle.coefficients.proofs.Laws.{filled_whole}
+-- `coefficients::screen_of`: an array of C at the well of each layer.
+use Rattle.std.proofs.Common.{rules, tests}
+use Rattle.record.specs.Record.{has_screen, layer_slots}
+use Rattle.coefficient_cells.specs.Cells.{across_of}
+use Rattle.coefficient_cells.specs.Worked.{slot_of}
+use Rattle.coefficients.proofs.Made.{made_whole}
 use Rattle.coefficients.proofs.screen_of.Goals as goal
-
-pub loop-i-init : goal.loop-i-init
-loop-i-init c = sym (fill_none _ _)
-
-pub loop-i-preserved : goal.loop-i-preserved
-loop-i-preserved c = fill_more _ _ c.loop-i.i c.loop-i.invariant c.at_well.ensures
 
 pub returns : goal.returns
 unfolding layer_slots
-returns c = filled_whole _ 20 c.loop-i.invariant (omega arith)
+returns c = made_whole _ _ (λ i. slot_of (has_screen c.args.site i) (across_of c.args.site i 0)) 20 (λ i y q lt k. search (rules, tests)) _ c.from_fn.ensures.items
