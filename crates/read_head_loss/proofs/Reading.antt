@@ -1,14 +1,8 @@
 -- What is known at each place of `head_loss`, and the answer there: refused with a number, or given.
-use mathlib.Core.Path.{◌≡◌, refl, sym, ap, ◌∙◌}
-use mathlib.Core.Bool.{Bool, true, false, not, ◌&&◌}
-use mathlib.Core.List.{List}
-use Prim.Native.Nat.{ℕ, suc, ◌*◌, ◌-◌, ◌≤◌, ◌<◌}
-use native.Mathlib.Omega.{arith}
-use lib.Dec.{eqb, leb, ltb}
-use lib.Ieee.{Float, nan}
-use lib.IntN.{pos, neg_ℤ}
-use lib.ListN.{get_or}
-use borrow.Author.Tests.{leb-true, ltb-false}
+use Rattle.std.proofs.Common.{Ok, Err, ◌≡◌, refl, sym, ap, ◌∙◌, Bool, true, false, not, ◌&&◌, List, ℕ, suc, ◌*◌, ◌-◌, ◌≤◌, ◌<◌, arith, eqb, leb, ltb, Float, pos, neg_ℤ, get_or, leb-true, ltb-false}
+use lib.Ieee.{nan}
+use Rattle.refusals.specs.declared.Refusal.{Refusal}
+use Rattle.refusals.specs.Refusals.{refusal, given}
 use Rattle.laws.specs.Fill.{fill, get_or-fill}
 use Rattle.laws.specs.Integer.{≤ℤ_pos}
 use Rattle.laws.specs.Refusal.{first_is}
@@ -35,8 +29,7 @@ use Rattle.readings.specs.Readings.{is_layer}
 use Rattle.hydraulics.specs.Hydraulics.{inflow_of}
 use Rattle.pipe.specs.Asked.{e_of, Screened}
 use Rattle.pipe.specs.Laws.{pipe_loss_same}
-use Rattle.read_head_loss.specs.declared.Loss.TheVariants.{Given, Refused}
-use Rattle.read_head_loss.specs.HeadLoss.{water_into, losses_at, loss_answer_of, is_screened_layer, head_loss_refusal, head_loss_of}
+use Rattle.read_head_loss.specs.HeadLoss.{water_into, losses_at, is_screened_layer, head_loss_refusal, head_loss_of}
 use Rattle.read_head_loss.specs.Slots.{layer_flow, inflow_at, no_inflows, SmallAt}
 
 -- inflows that agree at every screened layer give the same losses
@@ -52,12 +45,12 @@ module _ (r : Record) (layer dt : ℕ) where
   abbrev N : Network
   N = network_of (grid_of r)
 
-  refused_is : {n : ℕ} → suc n ≡ head_loss_refusal r layer dt → Refused (suc n) ≡ head_loss_of r layer dt
-  unfolding head_loss_of loss_answer_of
+  refused_is : {n : ℕ} → suc n ≡ head_loss_refusal r layer dt → Err (refusal (suc n)) ≡ head_loss_of r layer dt
+  unfolding head_loss_of given
   refused_is e = rw (← e)
 
-  pub refused_14 : valid r ≡ false → Refused 14 ≡ head_loss_of r layer dt
-  unfolding head_loss_refusal
+  pub refused_14 : valid r ≡ false → Err Refusal.Record ≡ head_loss_of r layer dt
+  unfolding head_loss_refusal refusal
   refused_14 e = refused_is (first_is (hit (ap not e)))
 
   module _ (ok : valid r ≡ true) where
@@ -74,16 +67,16 @@ module _ (r : Record) (layer dt : ℕ) where
     unfolding is_screened_layer is_layer grid_of
     named_is = refl
 
-    pub refused_12 : named r layer ≡ false → Refused 12 ≡ head_loss_of r layer dt
-    unfolding head_loss_refusal
+    pub refused_12 : named r layer ≡ false → Err Refusal.NoSuch ≡ head_loss_of r layer dt
+    unfolding head_loss_refusal refusal
     refused_12 e = refused_is (first_is (skip (ap not ok) (hit (ap not (sym named_is ∙ e)))))
 
-    pub refused_7 : named r layer ≡ true → length_out dt ≡ true → Refused 7 ≡ head_loss_of r layer dt
-    unfolding head_loss_refusal
+    pub refused_7 : named r layer ≡ true → length_out dt ≡ true → Err Refusal.RateOrLength ≡ head_loss_of r layer dt
+    unfolding head_loss_refusal refusal
     refused_7 there e = refused_is (first_is (skip (ap not ok) (skip (ap not (sym named_is ∙ there)) (hit e))))
 
-    pub refused_8 : named r layer ≡ true → length_out dt ≡ false → stable N dt ≡ false → Refused 8 ≡ head_loss_of r layer dt
-    unfolding head_loss_refusal unstable
+    pub refused_8 : named r layer ≡ true → length_out dt ≡ false → stable N dt ≡ false → Err Refusal.Unstable ≡ head_loss_of r layer dt
+    unfolding head_loss_refusal unstable refusal
     refused_8 there sized e = refused_is (first_is (skip (ap not ok) (skip (ap not (sym named_is ∙ there)) (skip sized (hit (ap not e))))))
 
   -- 14, 12, 7 and 8 let the reading pass
@@ -92,6 +85,10 @@ module _ (r : Record) (layer dt : ℕ) where
     pub there : named r layer ≡ true
     pub sized : length_out dt ≡ false
     pub steady : stable N dt ≡ true
+
+  -- from what the code's tests gave
+  pub begun : {a b c d : Bool} → a ≡ valid r → a ≡ true → b ≡ named r layer → b ≡ true → c ≡ length_out dt → c ≡ false → d ≡ stable N dt → d ≡ true → Begun
+  begun e f g h i j k l = record { passed = sym e ∙ f; there = sym g ∙ h; sized = sym i ∙ j; steady = sym k ∙ l }
 
   module _ (b : Begun) where
     v : Valid r
@@ -125,10 +122,10 @@ module _ (r : Record) (layer dt : ℕ) where
       )
 
       -- e of each layer as the code has it and as the reading defines it
-      abbrev given : List Float
-      given = fill r.site.layers (inflow_at r.screen r.storages r.losses well dt) no_inflows
+      abbrev es : List Float
+      es = fill r.site.layers (inflow_at r.screen r.storages r.losses well dt) no_inflows
 
-      inflow_is : (i : ℕ) → i < r.site.layers → is_screened r.site.screened i ≡ true → e_of given i ≡ inflow_of (water_into (grid_of r) (state_of r).losses dt i) dt
+      inflow_is : (i : ℕ) → i < r.site.layers → is_screened r.site.screened i ≡ true → e_of es i ≡ inflow_of (water_into (grid_of r) (state_of r).losses dt i) dt
       unfolding inflow_at water_into ifℤ no_inflows
       inflow_is i h e =
           get_or-fill (inflow_at r.screen r.storages r.losses well dt) no_inflows r.site.layers i nan h (omega (arith, few_layers b.passed))
@@ -138,6 +135,6 @@ module _ (r : Record) (layer dt : ℕ) where
       unfolding head_loss_refusal unstable
       none_forbids = first_is (skip (ap not b.passed) (skip (ap not (sym (named_is b.passed) ∙ b.there)) (skip b.sized (skip (ap not b.steady) none))))
 
-      pub answered : Given (losses_at r.site (e_of given) (layer - 1)) ≡ head_loss_of r layer dt
-      unfolding head_loss_of loss_answer_of
-      answered = rw (← none_forbids) (ap Given (losses_same r.site (e_of given) (λ i. inflow_of (water_into (grid_of r) (state_of r).losses dt i) dt) inflow_is (layer - 1) screened_is))
+      pub answered : Ok (losses_at r.site (e_of es) (layer - 1)) ≡ head_loss_of r layer dt
+      unfolding head_loss_of given
+      answered = rw (← none_forbids) (ap Ok (losses_same r.site (e_of es) (λ i. inflow_of (water_into (grid_of r) (state_of r).losses dt i) dt) inflow_is (layer - 1) screened_is))
