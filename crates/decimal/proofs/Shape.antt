@@ -2,7 +2,7 @@
 use Rattle.std.proofs.Common.{◌≡◌, ◌∙◌, Option, Some, None, true, false, cond, List, ℕ, ◌<◌, ◌≤◌, leb, eqb, length, get_or, arith, le-leb, ne_eqb}
 use Rattle.std.proofs.lemmas.Bool.{lt-leb}
 use Rattle.std.proofs.Math.Bool.{or-true}
-use native.Mathlib.Decide.{dec_lt}
+use Rattle.std.proofs.Math.Decide.{dec_lt}
 use Rattle.laws.specs.Lists.{every}
 use Rattle.limits.specs.Limits.{digit_limit}
 use Rattle.decimal.specs.Decimal.{zero_byte, is_digit, value, no_leading_zero, numeral, decimal_of}

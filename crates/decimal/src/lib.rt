@@ -14,7 +14,7 @@ const ZERO: u8 = b'0';
 // The most digits of a word.
 const DIGIT_PLACES: usize = 20;
 
-// The digits of a number, the most significant first, and 0 after the last.
+// The digits of a number, the most significant first, and 0 after the last. No ArrayVec: the definition `written_of` and listing_lines name this form.
 #[derive(Clone, Copy)]
 pub struct Digits {
     pub count: usize,

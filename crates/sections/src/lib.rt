@@ -170,9 +170,8 @@ pub fn repeats_hold(values: &[u64; NUMBER_PLACES], layout: Layout) -> bool
     requires { (ns : List ℕ) × Reads values.now layout ns }
     ensures { (ns : List ℕ) → Reads values.now layout ns → result ≡ repeats_hold ns }
 {
-    let pumping = layout.pumping;
-    for i in 0..values[pumping] as usize {
-        if !repeat_limits(values[pumping + 3 + ENTRY_WIDTH * i]) {
+    for i in 0..values[layout.pumping] as usize {
+        if !repeat_limits(values[layout.pumping + 3 + ENTRY_WIDTH * i]) {
             return false;
         }
     }

@@ -3,11 +3,8 @@
 --     counts_hold_lem        how many layers, columns and coefficients there are
 --     numbers_hold_lem       the limits of each layer, radius, coefficient and of the well
 --     radii_hold_lem         what rules 3 and 4 say of the radii on both sides of each face between columns
-use Rattle.std.specs.Prelude.{◌≡◌, true, ◌&&◌, leb, ltb}
-use Prim.Native.Nat.{ℕ, zero, suc, ◌*◌, ◌≤◌, ◌<◌}
-use Rattle.std.proofs.Common.{arith}
-use borrow.Author.Tests.{leb-true, ltb-true}
-use Rattle.std.proofs.Math.ListN.{get_or}
+use Rattle.std.specs.Prelude.{◌≡◌, true, ◌&&◌, ℕ, zero, suc, ◌*◌, ◌≤◌, ◌<◌, leb, ltb, get_or}
+use Rattle.std.proofs.Common.{arith, leb-true, ltb-true}
 use Rattle.laws.specs.All.{all_at, and_left, and_right}
 use Rattle.laws.specs.Rows.{three_hold, four_hold}
 use Rattle.site.specs.declared.Site.{Site}

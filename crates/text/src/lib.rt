@@ -10,7 +10,7 @@ use limits::{NUMBER_PLACES, TEXT_LIMIT};
 // What ends a line.
 const LINE_FEED: u8 = b'\n';
 
-// The numbers of a text: how many there are, and the first of them, with 0 after the last.
+// The numbers of a text: how many there are, and the first of them, with 0 after the last. No ArrayVec: more can be counted than are kept.
 #[derive(Clone, Copy)]
 pub struct Numbers {
     pub count: usize,

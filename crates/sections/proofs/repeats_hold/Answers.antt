@@ -8,23 +8,23 @@ use Rattle.sections.specs.Laws.{length-field}
 use Rattle.sections.proofs.Places.{form, places, entry_near, entries_read, repeats_read}
 use Rattle.sections.proofs.repeats_hold.Goals as goal
 
-pub offset_bounds-values-pumping : goal.offset_bounds-values-pumping
-offset_bounds-values-pumping c = omega (arith, places c.requires.1)
+pub offset_bounds-values-layout : goal.offset_bounds-values-layout
+offset_bounds-values-layout c = omega (arith, places c.requires.1)
 
-pub bounds-values-pumping : goal.bounds-values-pumping
-bounds-values-pumping c = omega (arith, places c.requires.1)
+pub bounds-values-layout : goal.bounds-values-layout
+bounds-values-layout c = omega (arith, places c.requires.1)
 
 pub overflow_mul-i : goal.overflow_mul-i
 overflow_mul-i c = omega (arith, entry_near c.requires.1 c.loop-i.i (omega (arith, entries_read c.requires.1)))
 
-pub overflow_add-pumping-in-loop-i : goal.overflow_add-pumping-in-loop-i
-overflow_add-pumping-in-loop-i c = omega (arith, entry_near c.requires.1 c.loop-i.i (omega (arith, entries_read c.requires.1)))
+pub overflow_add-layout-in-loop-i : goal.overflow_add-layout-in-loop-i
+overflow_add-layout-in-loop-i c = omega (arith, entry_near c.requires.1 c.loop-i.i (omega (arith, entries_read c.requires.1)))
 
-pub offset_bounds-values-pumping-in-loop-i : goal.offset_bounds-values-pumping-in-loop-i
-offset_bounds-values-pumping-in-loop-i c = omega (arith, entry_near c.requires.1 c.loop-i.i (omega (arith, entries_read c.requires.1)))
+pub offset_bounds-values-layout-in-loop-i : goal.offset_bounds-values-layout-in-loop-i
+offset_bounds-values-layout-in-loop-i c = omega (arith, entry_near c.requires.1 c.loop-i.i (omega (arith, entries_read c.requires.1)))
 
-pub bounds-values-pumping-in-loop-i : goal.bounds-values-pumping-in-loop-i
-bounds-values-pumping-in-loop-i c = omega (arith, entry_near c.requires.1 c.loop-i.i (omega (arith, entries_read c.requires.1)))
+pub bounds-values-layout-in-loop-i : goal.bounds-values-layout-in-loop-i
+bounds-values-layout-in-loop-i c = omega (arith, entry_near c.requires.1 c.loop-i.i (omega (arith, entries_read c.requires.1)))
 
 pub returns-then-not-repeat_limits : goal.returns-then-not-repeat_limits
 unfolding repeats_hold entries_of
