@@ -15,11 +15,14 @@ use lib.Dec.{eqb, ltb}
 use lib.IntN.{ℤ, pos}
 use lib.ListN.{length, get_or, get_or-replicate}
 use lib.Signed.{≤ℤ_refl}
+use Rattle.std.specs.Prelude.{Ok, Err}
 use Rattle.laws.specs.Integer.{plus, minus}
 use Rattle.laws.specs.Refusal.First.{none, hit, skip}
 use Rattle.laws.specs.Lists.{ifℕ, ifℤ, sumℤ, range}
 use Rattle.laws.specs.Sums.{ifℕ_le, ifℤ_pos, sumℕ_le, sumℕ_zero, sumℕ-map, sumℤ_ext, range-below, Room}
 use Rattle.limits.specs.Limits.{total_limit}
+use Rattle.refusals.specs.declared.Refusal.{Refusal}
+use Rattle.refusals.specs.Refusals.{refusal, given}
 use Rattle.network.specs.Network.{Network, State, loss_at, loss_in}
 use Rattle.network.specs.Grid.{place, place_count, one_per_place, network_of}
 use Rattle.network.specs.Kept.{Kept}
@@ -31,13 +34,11 @@ use Rattle.record.specs.Record.{grid_of, state_of}
 use Rattle.validity.specs.Laws.{Valid, valid_record}
 use Rattle.validity.specs.Validity.{valid}
 use Rattle.slot_places.specs.Slots.{loss_cell}
-use Rattle.readings.specs.declared.Amount.{Amount}
-use Rattle.readings.specs.declared.Balance.{Balance}
 use Rattle.readings.specs.declared.Totals.{Totals}
 use Rattle.read_budget.specs.Counted.{slot_loss, counted_loss, every_cell}
 use Rattle.readings.specs.Readings.{totals_in, set_of, budget_of, loss_of}
 use Rattle.network.proofs.laws.Totals.{size, size_is, all-lost}
-use Rattle.readings.specs.Laws.{amount_refused, amount_given, balance_refused, balance_given}
+use Rattle.readings.specs.Laws.{answered}
 
 -- ---- the number of cells, and the slot of a place
 pub cells_few : {layers columns : ℕ} → layers ≤ 20 → columns ≤ 50 → layers * (columns - 1) ≤ 980
@@ -135,16 +136,16 @@ every_cell_lem zero h = refl
 every_cell_lem (suc q) h = rw (get_or-replicate {A = ℕ} 980 q 1 0 (omega arith), lt-ltb 0 (suc q) (omega arith))
 
 -- ---- the answers of `storage_loss` and `budget`
-pub loss_14 : (r : Record) (bytes : List ℕ) → valid r ≡ false → Amount.Refused 14 ≡ loss_of r bytes
-unfolding loss_of
-loss_14 r bytes e = amount_refused _ (hit (ap not e))
+pub loss_14 : (r : Record) (bytes : List ℕ) → valid r ≡ false → Err Refusal.Record ≡ loss_of r bytes
+unfolding loss_of given refusal
+loss_14 r bytes e = answered _ (hit (ap not e)) refl
 
 pub count_asks : (r : Record) → valid r ≡ true → (r.site.layers ≤ 20) × (1 ≤ r.site.columns) × (r.site.columns ≤ 50)
 count_asks r ok = let c = counts_hold_lem r.site (valid_record r ok).counts in omega (arith, c.layers_most, c.columns_least, c.columns_most)
 
-pub budget_14 : (r : Record) → valid r ≡ false → Balance.Refused 14 ≡ budget_of r
-unfolding budget_of
-budget_14 r e = balance_refused _ (hit (ap not e))
+pub budget_14 : (r : Record) → valid r ≡ false → Err Refusal.Record ≡ budget_of r
+unfolding budget_of given refusal
+budget_14 r e = answered _ (hit (ap not e)) refl
 
 module _ (r : Record) (ok : valid r ≡ true) (n : ℕ) (e : n ≡ 1 + r.site.layers * (r.site.columns - 1)) where
   module _ (bytes : List ℕ) where
@@ -152,13 +153,13 @@ module _ (r : Record) (ok : valid r ≡ true) (n : ℕ) (e : n ≡ 1 + r.site.la
     unfolding place_count grid_of
     length_test = rw e
 
-    pub loss_13 : (length bytes ≡ n → ⊥) → Amount.Refused 13 ≡ loss_of r bytes
-    unfolding loss_of
-    loss_13 h = amount_refused _ (skip (ap not ok) (hit (ap not (length_test ∙ ne_eqb (length bytes) n h))))
+    pub loss_13 : (length bytes ≡ n → ⊥) → Err Refusal.LentLength ≡ loss_of r bytes
+    unfolding loss_of given refusal
+    loss_13 h = answered _ (skip (ap not ok) (hit (ap not (length_test ∙ ne_eqb (length bytes) n h)))) refl
 
-    pub loss-given : {x : ℤ} → length bytes ≡ n → x ≡ sumℤ (range 0 n) (counted_loss r.well_loss r.losses (r.site.columns - 1) bytes) → Amount.Given x ≡ loss_of r bytes
-    unfolding loss_of
-    loss-given h q = amount_given (skip (ap not ok) (skip (ap not (length_test ∙ eq-eqb (length bytes) n h)) none)) (q ∙ loss-sum r (valid_record r ok) bytes n e (set_of bytes) (λ p b. refl))
+    pub loss-given : {x : ℤ} → length bytes ≡ n → x ≡ sumℤ (range 0 n) (counted_loss r.well_loss r.losses (r.site.columns - 1) bytes) → Ok x ≡ loss_of r bytes
+    unfolding loss_of given
+    loss-given h q = answered _ (skip (ap not ok) (skip (ap not (length_test ∙ eq-eqb (length bytes) n h)) none)) (ap Ok (q ∙ loss-sum r (valid_record r ok) bytes n e (set_of bytes) (λ p b. refl)))
 
   places_few : n ≤ 981
   places_few = let c = counts_hold_lem r.site (valid_record r ok).counts in omega (arith, cells_few c.layers_most c.columns_most)
@@ -167,8 +168,8 @@ module _ (r : Record) (ok : valid r ≡ true) (n : ℕ) (e : n ≡ 1 + r.site.la
   cells_listed = omega (arith, every-length, places_few)
 
   pub budget_given : {w x i m : ℤ} → w ≡ r.well_loss → x ≡ sumℤ (range 0 n) (counted_loss r.well_loss r.losses (r.site.columns - 1) every_cell) → i ≡ r.inflow → m ≡ r.mark
-      → Balance.Given (record { pumped = r.pumped; well_loss = w; cell_loss = x; inflow = i; mark = m }) ≡ budget_of r
-  unfolding budget_of totals_in state_of loss_at one_per_place
-  budget_given p q o m = balance_given (skip (ap not ok) none)
-      (rw (p, o, m) (ap {B = Totals} (λ z. record { pumped = r.pumped; well_loss = r.well_loss; cell_loss = z; inflow = r.inflow; mark = r.mark })
-      (q ∙ loss-sum r (valid_record r ok) every_cell n e (λ p. ltb 0 p) (λ p h. every_cell_lem p (omega (arith, places_few))))))
+      → Ok (record { pumped = r.pumped; well_loss = w; cell_loss = x; inflow = i; mark = m }) ≡ budget_of r
+  unfolding budget_of given totals_in state_of loss_at one_per_place
+  budget_given p q o m = answered _ (skip (ap not ok) none)
+      (ap Ok (rw (p, o, m) (ap {B = Totals} (λ z. record { pumped = r.pumped; well_loss = r.well_loss; cell_loss = z; inflow = r.inflow; mark = r.mark })
+      (q ∙ loss-sum r (valid_record r ok) every_cell n e (λ p. ltb 0 p) (λ p h. every_cell_lem p (omega (arith, places_few)))))))

@@ -9,8 +9,9 @@ ghost use Rattle.readings.specs.Readings.{budget_of, loss_of};
 ghost use Rattle.read_budget.specs.Counted.{slot_loss, counted_loss, every_cell};
 
 use limits::{CELL_PLACES, COLUMN_PLACES};
-use readings::{Amount, Balance, Totals};
+use readings::Totals;
 use record::Record;
+use refusals::Refusal;
 
 // How many places there are: the well and the cells of the stored columns.
 fn place_count(layers: u64, columns: u64) -> usize
@@ -50,11 +51,9 @@ fn loss_in<'a>(
     requires room { Room total_limit (pos 0) (map (counted_loss well losses.now stored set.now) (range 0 places)) }
     ensures { result ≡ sumℤ (range 0 places) (counted_loss well losses.now stored set.now) }
 {
-    let mut sum: i64 = 0;
-    let mut p: usize = 0;
-    while p < places {
+    let mut sum = 0;
+    for p in 0..places {
         sum += counted(set[p], loss_of(well, losses, stored, p));
-        p += 1;
     }
     sum
 }
@@ -69,18 +68,17 @@ fn every_cell() -> [u8; 981]
 }
 
 // The water budget, and the mark.
-pub fn budget(record: Record) -> Balance
+pub fn budget(record: Record) -> Result<Totals, Refusal>
     ensures { result ≡ budget_of «record» }
 {
     if !validity::valid(record) {
-        return Balance::Refused(14);
+        return Err(Refusal::Record);
     }
-    let site = record.site;
-    let places = place_count(site.layers, site.columns);
-    let stored = site.columns as usize - 1;
+    let places = place_count(record.site.layers, record.site.columns);
+    let stored = record.site.columns as usize - 1;
     let cells = every_cell();
     let cell_loss = loss_in(record.well_loss, &record.losses, stored, places, &cells);
-    Balance::Given(Totals {
+    Ok(Totals {
         pumped: record.pumped,
         well_loss: record.well_loss,
         cell_loss,
@@ -90,17 +88,16 @@ pub fn budget(record: Record) -> Balance
 }
 
 // Storage loss of a set of places, nl: a byte for each place, the well first, then the cells by layer and column; nonzero means in.
-pub fn storage_loss(record: Record, set: &[u8]) -> Amount
+pub fn storage_loss(record: Record, set: &[u8]) -> Result<i64, Refusal>
     ensures { result ≡ loss_of «record» set.now }
 {
     if !validity::valid(record) {
-        return Amount::Refused(14);
+        return Err(Refusal::Record);
     }
-    let site = record.site;
-    let places = place_count(site.layers, site.columns);
+    let places = place_count(record.site.layers, record.site.columns);
     if set.len() != places {
-        return Amount::Refused(13);
+        return Err(Refusal::LentLength);
     }
-    let stored = site.columns as usize - 1;
-    Amount::Given(loss_in(record.well_loss, &record.losses, stored, places, set))
+    let stored = record.site.columns as usize - 1;
+    Ok(loss_in(record.well_loss, &record.losses, stored, places, set))
 }

@@ -8,33 +8,35 @@ use lib.Dec.{ltb}
 use lib.ListN.{length, take, drop, length-append, length-drop}
 use lib.Seq.{take_at, drop_at}
 use borrow.Author.Tests.{lt-ltb, le-ltb, ltb-false, not-false}
+use Rattle.std.specs.Prelude.{Result, Ok, Err}
+use Rattle.refusals.specs.declared.Refusal.{Refusal}
+use Rattle.refusals.specs.Refusals.{refusal, given}
 use Rattle.laws.specs.Refusal.{first_is, passed}
 use Rattle.laws.specs.Refusal.First.{none, hit, skip}
 use Rattle.record.specs.declared.Record.{Record}
 use Rattle.validity.specs.Validity.{valid}
 use Rattle.slot_places.specs.Depths.{Depths}
-use Rattle.readings.specs.declared.Count.{Count}
-use Rattle.readings.specs.Readings.{count_of, deep_count, deep_refusal, deep_codes, Listed, listed_of, deep_of}
+use Rattle.readings.specs.Readings.{deep_count, deep_refusal, deep_codes, Listed, listed_of, deep_of}
 use Rattle.read_deep_cells.specs.Codes.{code_of, below, deep_at, Arrangement}
 use Rattle.read_deep_cells.specs.Order.{Whole}
 use Rattle.read_deep_cells.proofs.Slots.{count_codes}
 use Rattle.read_deep_cells.proofs.Deep.{deep_length, deep_times, deep_order, only_arranged}
 use Rattle.read_deep_cells.proofs.Keys.{same_codes, arranged}
 
-abbrev listed : Count → List ℕ → Listed
+abbrev listed : Result ℕ Refusal → List ℕ → Listed
 listed n l = record { answer = n; list = l }
 
 module _ (r : Record) (D : ℕ) (old : List ℕ) where
-  refused : (k : ℕ) → deep_refusal r D (length old) ≡ suc k → listed (Count.Refused (suc k)) old ≡ deep_of r D old
-  unfolding deep_of listed_of count_of
+  refused : (k : ℕ) → deep_refusal r D (length old) ≡ suc k → listed (Err (refusal (suc k))) old ≡ deep_of r D old
+  unfolding deep_of listed_of given
   refused k e = rw e
 
-  accepted : deep_refusal r D (length old) ≡ 0 → listed (Count.Given (deep_count r D)) (deep_codes r D ++ drop (length (deep_codes r D)) old) ≡ deep_of r D old
-  unfolding deep_of listed_of count_of
+  accepted : deep_refusal r D (length old) ≡ 0 → listed (Ok (deep_count r D)) (deep_codes r D ++ drop (length (deep_codes r D)) old) ≡ deep_of r D old
+  unfolding deep_of listed_of given
   accepted e = rw e
 
-  pub refused_14 : valid r ≡ false → listed (Count.Refused 14) old ≡ deep_of r D old
-  unfolding deep_refusal
+  pub refused_14 : valid r ≡ false → listed (Err Refusal.Record) old ≡ deep_of r D old
+  unfolding deep_refusal refusal
   refused_14 e = refused 13 (sym (first_is (hit (ap not e))))
 
   -- ---- the theorem
@@ -46,9 +48,9 @@ module _ (r : Record) (D : ℕ) (old : List ℕ) where
       (not-false (valid r) judged.0, ltb-false (length old) (deep_count r D) (passed (ltb (length old) (deep_count r D)) 12 [] judged.1).0)
 
   pub whole : deep_refusal r D (length old) ≡ 0 → Whole r D old (deep_of r D old)
-  unfolding count_of
+  unfolding given
   whole e = rw (← accepted e) (record {
-    answered = ap Count.Given (sym (ap length front ∙ count));
+    answered = ap Ok (sym (ap length front ∙ count));
     slots = as_long;
     rest = drop_at (deep_codes r D) rest (deep_count r D) count ∙ ap (λ n. drop n old) count;
     arranged = rw front (record { once = deep_times r a.0 D; order = deep_order r a.0 D });
@@ -74,12 +76,12 @@ module _ (r : Record) (D : ℕ) (ok : valid r ≡ true) (ds : List ℕ) (e : Dep
   counted : n ≡ deep_count r D
   counted = q ∙ ap length (same_codes r D ok ds e) ∙ sym (count_codes r D ok)
 
-  pub refused_13 : length old < n → listed (Count.Refused 13) old ≡ deep_of r D old
-  unfolding deep_refusal
+  pub refused_13 : length old < n → listed (Err Refusal.LentLength) old ≡ deep_of r D old
+  unfolding deep_refusal refusal
   refused_13 h = refused r D old 12 (sym (first_is (skip (ap not ok) (hit (lt-ltb (length old) (deep_count r D) (omega (arith, counted)))))))
 
-  pub given : {front : List ℕ} → n ≤ length old → Arrangement D ds (50 * r.site.layers) front → listed (Count.Given n) (front ++ drop n old) ≡ deep_of r D old
+  pub given_whole : {front : List ℕ} → n ≤ length old → Arrangement D ds (50 * r.site.layers) front → listed (Ok n) (front ++ drop n old) ≡ deep_of r D old
   unfolding deep_refusal
-  given {front} h a =
-      ap₂ listed (ap Count.Given counted) (ap₂ (λ l k. l ++ drop k old) (arranged r D ok ds e a) (counted ∙ sym (deep_length r ok D)))
+  given_whole {front} h a =
+      ap₂ listed (ap Ok counted) (ap₂ (λ l k. l ++ drop k old) (arranged r D ok ds e a) (counted ∙ sym (deep_length r ok D)))
       ∙ accepted r D old (sym (first_is (skip (ap not ok) (skip (le-ltb (length old) (deep_count r D) (omega (arith, counted))) none))))

@@ -1,5 +1,5 @@
 -- What documents 01 and 02 say of the list of deep cells: each once (01, 'Readings'), and in which order (02, N3).
-use Rattle.std.specs.Prelude.{◌≡◌, Bool, true, ◌&&◌, ◌||◌, List, [], ◌∷◌, ℕ, ◌-◌, ◌/◌, ◌%◌, ℤ, eqb, leb, ltb, length, take, drop}
+use Rattle.std.specs.Prelude.{◌≡◌, Bool, true, ◌&&◌, ◌||◌, List, [], ◌∷◌, ℕ, ◌-◌, ◌/◌, ◌%◌, ℤ, eqb, leb, ltb, length, take, drop, Ok}
 use Rattle.std.specs.Int.Signed.{lt_z}
 use Rattle.laws.specs.Lists.{ifℕ, sumℕ, every}
 use Rattle.network.specs.Network.{drawdown}
@@ -7,7 +7,7 @@ use Rattle.network.specs.Grid.{place, network_of}
 use Rattle.record.specs.declared.Record.{Record}
 use Rattle.record.specs.Record.{grid_of, state_of}
 use Rattle.validity.specs.Validity.{equalℤ}
-use Rattle.readings.specs.Readings.{count_of, is_deep_code, deep_count, Listed}
+use Rattle.readings.specs.Readings.{is_deep_code, deep_count, Listed}
 
 -- how often c stands in a list
 unfoldable pub times : ℕ → List ℕ → ℕ
@@ -38,7 +38,7 @@ pub record Arranged (r : Record) (D : ℕ) (l : List ℕ) : Type 0 where
 -- what holds of the answer and of the lent list after it, where it was `old` before and the reading is not refused
 pub record Whole (r : Record) (D : ℕ) (old : List ℕ) (given : Listed) : Type 0 where
   -- so many slots are written as the answer says, and the others are as they were
-  pub answered : given.answer ≡ count_of 0 (length (take (deep_count r D) given.list))
+  pub answered : given.answer ≡ Ok (length (take (deep_count r D) given.list))
   pub slots : length given.list ≡ length old
   pub rest : drop (deep_count r D) given.list ≡ drop (deep_count r D) old
   -- what is written is so arranged, and nothing else is

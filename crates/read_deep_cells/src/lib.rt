@@ -10,8 +10,8 @@ ghost use Rattle.read_deep_cells.specs.Codes.{code_of, code_limit, key_by, key_o
 ghost use Rattle.read_deep_cells.specs.Order.{Whole};
 
 use limits::{CELL_PLACES, COLUMN_PLACES, DRAWDOWN_LIMIT};
-use readings::Count;
 use record::Record;
+use refusals::Refusal;
 
 // Above every code: a layer is at most 20 and a stored column at most 49.
 const CODE_LIMIT: u64 = 10_000;
@@ -47,13 +47,11 @@ fn count_deep(depths: &[u64; CELL_PLACES], depth: u64, n: usize) -> usize
     requires { n ≤ 1000 }
     ensures { result ≡ length (below (deep_at depth depths.now) code_of n) }
 {
-    let mut count: usize = 0;
-    let mut k: usize = 0;
-    while k < n {
+    let mut count = 0;
+    for k in 0..n {
         if is_deep(depths, depth, k) {
             count += 1;
         }
-        k += 1;
     }
     count
 }
@@ -64,15 +62,13 @@ fn write_keys(depths: &[u64; CELL_PLACES], depth: u64, n: usize, list: &mut [u64
     requires list_len { length list.old ≡ length (below (deep_at depth depths.now) (key_of depths.now) n) }
     ensures { list.new ≡ below (deep_at depth depths.now) (key_of depths.now) n }
 {
-    let mut at: usize = 0;
-    let mut k: usize = 0;
-    while k < n {
+    let mut at = 0;
+    for k in 0..n {
         if is_deep(depths, depth, k) {
             let deep = depths[k];
             list[at] = key(deep, code(k));
             at += 1;
         }
-        k += 1;
     }
 }
 
@@ -80,10 +76,8 @@ fn write_keys(depths: &[u64; CELL_PLACES], depth: u64, n: usize, list: &mut [u64
 fn keep_codes(list: &mut [u64])
     ensures { list.new ≡ map (λ x. x % code_limit) list.old }
 {
-    let mut k: usize = 0;
-    while k < list.len() {
-        list[k] = list[k] % CODE_LIMIT;
-        k += 1;
+    for x in list.iter_mut() {
+        *x %= CODE_LIMIT;
     }
 }
 
@@ -100,20 +94,20 @@ fn arrange(depths: &[u64; CELL_PLACES], depth: u64, n: usize, list: &mut [u64])
 
 // The cells with a D above `depth`: how many, and in the lent list the code of each in order. The rest of the list stays as it was, and all of it
 // where the reading is refused.
-pub fn deep_cells(record: Record, depth: u64, list: &mut [u64]) -> Count
+pub fn deep_cells(record: Record, depth: u64, list: &mut [u64]) -> Result<u64, Refusal>
     ensures { record { answer = result; list = list.new } ≡ deep_of «record» depth list.old }
 {
     if !validity::valid(record) {
-        return Count::Refused(14);
+        return Err(Refusal::Record);
     }
     let cells = COLUMN_PLACES * record.site.layers as usize;
-    let depths = readings::depths(record);
+    let depths = readings::depths(&record);
     let count = count_deep(&depths, depth, cells);
     if list.len() < count {
-        return Count::Refused(13);
+        return Err(Refusal::LentLength);
     }
     arrange(&depths, depth, cells, &mut list[..count]);
-    Count::Given(count as u64)
+    Ok(count as u64)
 }
 
 // What the reading gives where it is not refused: the part of the list that is written has the code of each deep cell once, and no other, in the

@@ -23,7 +23,7 @@ overflow_add-sum c =
     let f : SFits w64 c.counted-sum.result = search rules in
     let g : SFits w64 c.loss_of.result = search rules in
     let is = adds (to_z w64 (of_z w64 c.args.well)) c.args.losses.now c.args.stored c.args.set.now c.loop-p.p _ _ c.counted-sum.ensures c.loss_of.ensures f g in
-    let more = rw (← is) at (adding_more _ c.loop-p.invariant c.loop-p-test.true) in
+    let more = rw (← is) at (adding_more _ c.loop-p.invariant (omega arith)) in
     room_fits more.room (omega arith)
 
 pub loop-p-preserved : goal.loop-p-preserved
@@ -31,9 +31,9 @@ loop-p-preserved c =
     let f : SFits w64 c.counted-sum.result = search rules in
     let g : SFits w64 c.loss_of.result = search rules in
     let is = adds (to_z w64 (of_z w64 c.args.well)) c.args.losses.now c.args.stored c.args.set.now c.loop-p.p _ _ c.counted-sum.ensures c.loss_of.ensures f g in
-    let more = rw (← is) at (adding_more _ c.loop-p.invariant c.loop-p-test.true) in
+    let more = rw (← is) at (adding_more _ c.loop-p.invariant (omega arith)) in
     let fits : SFits w64 (to_z w64 c.loop-p.sum-bits +ℤ to_z w64 (of_z w64 c.counted-sum.result)) = room_fits more.room (omega arith) in
     rw (to_z-of_z w64 _ fits) more
 
 pub returns : goal.returns
-returns c = rw (to_z-of_z w64 _ c.ranges.well) at (adding_done _ c.loop-p.invariant c.loop-p-test.false) ∙ +ℤ_idl _
+returns c = rw (to_z-of_z w64 _ c.ranges.well) at (adding_done _ c.loop-p.invariant (omega arith)) ∙ +ℤ_idl _

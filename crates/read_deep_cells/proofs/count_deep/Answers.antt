@@ -6,12 +6,12 @@ use Rattle.read_deep_cells.proofs.count_deep.Goals as goal
 use Rattle.read_deep_cells.proofs.count_deep.Goals.{then-is_deep, else-is_deep}
 
 pub loop-k-init : goal.loop-k-init
-loop-k-init c = (omega arith, omega arith, none_counted _ _ code_of)
+loop-k-init c = (omega arith, none_counted _ _ code_of)
 
 pub loop-k-preserved : goal.loop-k-preserved
 loop-k-preserved c =
     let a = c.args in
     elim c.if-is_deep.branch [
-      | then-is_deep w ↦ omega (arith, counted a.depth a.depths.now code_of c.loop-k.k (sym c.is_deep.ensures ∙ w.if-is_deep.true))
-      | else-is_deep w ↦ omega (arith, ap length (passed_over a.depth a.depths.now code_of c.loop-k.k (sym c.is_deep.ensures ∙ w.if-is_deep.false)))
+      | then-is_deep w ↦ (omega arith, omega (arith, counted a.depth a.depths.now code_of c.loop-k.k (sym c.is_deep.ensures ∙ w.if-is_deep.true)))
+      | else-is_deep w ↦ (omega arith, omega (arith, ap length (passed_over a.depth a.depths.now code_of c.loop-k.k (sym c.is_deep.ensures ∙ w.if-is_deep.false))))
     ]

@@ -7,7 +7,7 @@ use Rattle.slot_places.specs.Slots.{counted}
 use Rattle.read_deep_cells.specs.Codes.{code_of}
 use Rattle.read_deep_cells.proofs.Slots.{length-below}
 use Rattle.read_deep_cells.proofs.Keys.{shallow}
-use Rattle.read_deep_cells.proofs.Answer.{refused_14, refused_13, given}
+use Rattle.read_deep_cells.proofs.Answer.{refused_14, refused_13, given_whole}
 use Rattle.read_deep_cells.proofs.deep_cells.Goals as goal
 
 few : (r : Record) → valid r ≡ true → 50 * r.site.layers ≤ 1000
@@ -28,7 +28,7 @@ returns-then-list-count c =
 
 pub returns : goal.returns
 returns c =
-    given c.args.«record» c.args.depth (sym c.valid.ensures ∙ c.if-not-valid.false) c.depths-depths.result c.depths-depths.ensures c.args.list.now c.count_deep-count.ensures (omega (arith, c.if-list-count.false)) c.arrange.ensures
+    given_whole c.args.«record» c.args.depth (sym c.valid.ensures ∙ c.if-not-valid.false) c.depths-depths.result c.depths-depths.ensures c.args.list.now c.count_deep-count.ensures (omega (arith, c.if-list-count.false)) c.arrange.ensures
 
 pub arrange-requires-clause-n_bound : goal.arrange-requires-clause-n_bound
 arrange-requires-clause-n_bound c =

@@ -1,4 +1,4 @@
--- `read_deep_cells::keep_codes` meets its contract: after k turns the first k slots hold codes, the others still keys.
+-- `read_deep_cells::keep_codes` meets its contract: the slots passed hold codes, the others still keys.
 use Rattle.std.proofs.Common.{◌≡◌, sym, ap, ◌∙◌, List, map, ℕ, ◌%◌, le_refl, arith, length, get_or, ext_get_or}
 use lib.ListN.{length-map, get_or-map}
 use Rattle.laws.specs.Fill.{fill, fill_none, fill_more, length-fill, get_or-fill, get_or-fill_rest}
@@ -16,20 +16,18 @@ whole l = ext_get_or 0 (fill (length l) (code_in l) l) (map (λ x. x % 10000) l)
     long : length (fill (length l) (code_in l) l) ≡ length l
     long = length-fill (code_in l) l (length l)
 
-pub loop-k-init : goal.loop-k-init
-loop-k-init c = (omega arith, sym (fill_none _ _))
+pub loop-x-init : goal.loop-x-init
+loop-x-init c = sym (fill_none _ _)
 
-pub loop-k-preserved : goal.loop-k-preserved
-loop-k-preserved c =
+pub loop-x-preserved : goal.loop-x-preserved
+loop-x-preserved c =
     let l = c.args.list.now in
-    let k = c.loop-k.k in
-    let e = c.loop-k.invariant.1 in (
-      omega (arith, ap length e ∙ length-fill (code_in l) l k),
-      fill_more (code_in l) l k e (ap (λ m. get_or m k 0 % 10000) e ∙ ap (λ x. x % 10000) (get_or-fill_rest (code_in l) l k k 0 (le_refl k))),
-    )
+    let k = c.loop-x.x-index in
+    let e = c.loop-x.invariant in
+    fill_more (code_in l) l k e (ap (λ m. get_or m k 0 % 10000) e ∙ ap (λ x. x % 10000) (get_or-fill_rest (code_in l) l k k 0 (le_refl k)))
 
 pub returns : goal.returns
 returns c =
     let l = c.args.list.now in
-    let e : c.loop-k.k ≡ length l = omega (arith, ap length c.loop-k.invariant.1 ∙ length-fill (code_in l) l c.loop-k.k) in
-    c.loop-k.invariant.1 ∙ rw e (whole l)
+    let e : c.loop-x.x-index ≡ length l = omega (arith, ap length c.loop-x.invariant ∙ length-fill (code_in l) l c.loop-x.x-index) in
+    c.loop-x.invariant ∙ rw e (whole l)

@@ -20,7 +20,7 @@ long : (D : ℕ) (ds : List ℕ) (k n : ℕ) (old : List ℕ) {l : List ℕ} →
 long D ds k n old e h q = ap length e ∙ length_with _ old (omega (arith, length_most (deep_at D ds) (key_of ds) k n h))
 
 pub loop-k-init : goal.loop-k-init
-loop-k-init c = (omega arith, omega arith, none_counted _ _ _, none_written _ _ _ _)
+loop-k-init c = (omega arith, none_counted _ _ _, none_written _ _ _ _)
 
 pub key-requires : goal.key-requires
 key-requires c = (c.requires.n_bound.1 _, rw c.code.ensures (code-small _ (omega arith)))
@@ -31,7 +31,7 @@ bounds-list-at c =
     let D = c.args.depth in
     let ds = c.args.depths.now in
     let k = c.loop-k.k in
-    omega (arith, long D ds k c.args.n c.args.list.now c.loop-k.invariant.3 c.loop-k.invariant.0 c.requires.list_len, room D ds (key_of ds) k (sym c.is_deep.ensures ∙ c.if-is_deep.true) c.args.n c.args.list.now (omega arith) (omega (arith, c.requires.list_len)))
+    omega (arith, long D ds k c.args.n c.args.list.now c.loop-k.invariant.2 (omega arith) c.requires.list_len, room D ds (key_of ds) k (sym c.is_deep.ensures ∙ c.if-is_deep.true) c.args.n c.args.list.now (omega arith) (omega (arith, c.requires.list_len)))
 
 pub loop-k-preserved : goal.loop-k-preserved
 loop-k-preserved c =
@@ -43,20 +43,18 @@ loop-k-preserved c =
           let deep : deep_at D ds k ≡ true = sym c.is_deep.ensures ∙ w.if-is_deep.true in
           let made : w.key.result ≡ key_by (get_or ds k 0) w.code.result = w.key.ensures in (
             omega arith,
-            omega arith,
             omega (arith, counted D ds (key_of ds) k deep),
-            w.list-is ∙ written D ds (key_of ds) k deep c.args.n c.args.list.now (omega arith) (omega (arith, c.requires.list_len)) c.loop-k.invariant.2 c.loop-k.invariant.3 (key-is ds k made w.code.ensures),
+            w.list-is ∙ written D ds (key_of ds) k deep c.args.n c.args.list.now (omega arith) (omega (arith, c.requires.list_len)) c.loop-k.invariant.1 c.loop-k.invariant.2 (key-is ds k made w.code.ensures),
           )
       | else-is_deep w ↦
           let over : deep_at D ds k ≡ false = sym c.is_deep.ensures ∙ w.if-is_deep.false in (
             omega arith,
-            omega arith,
             omega (arith, ap length (passed_over D ds (key_of ds) k over)),
-            w.list-is ∙ c.loop-k.invariant.3 ∙ rw (passed_over D ds (key_of ds) k over),
+            w.list-is ∙ c.loop-k.invariant.2 ∙ rw (passed_over D ds (key_of ds) k over),
           )
     ]
 
 pub returns : goal.returns
 returns c =
     let e : c.loop-k.k ≡ c.args.n = omega arith in
-    c.loop-k.invariant.3 ∙ rw e (with_all _ c.args.list.now c.requires.list_len)
+    c.loop-k.invariant.2 ∙ rw e (with_all _ c.args.list.now c.requires.list_len)
