@@ -1,7 +1,7 @@
 -- What the test of the slots says, whose numbers are capped: it is that of 6, and where it holds no number was capped.
 use Rattle.std.proofs.Common.{◌≡◌, refl, sym, ap, ◌∙◌, Bool, true, false, cond, ◌&&◌, List, ⊎_elim, ℕ, suc, ◌+◌, ◌-◌, ◌/◌, ◌%◌, ◌^◌, ◌≤◌, ◌<◌, arith, ltb-true, leb, ltb, pos, replicate, Some, None}
-use mathlib.Core.Bool.{and-true, and-false}
-use borrow.Author.Tests.{lt-leb}
+use Rattle.std.proofs.Math.Bool.{and-true, and-false}
+use Rattle.std.proofs.lemmas.Bool.{lt-leb}
 use Rattle.laws.specs.All.{and_left, and_right}
 use Rattle.laws.specs.Number.{below_or_not}
 use Rattle.laws.specs.Ranges.{map-range_ext}

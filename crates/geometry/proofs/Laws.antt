@@ -1,8 +1,8 @@
 -- The terms of a logarithm's series, the two cases of a logarithm, and how large the numbers of the rules are.
 use Rattle.std.proofs.Common.{◌≡◌, refl, lt-ltb, le-ltb, ℕ, zero, suc, ◌+◌, ◌*◌, ◌-◌, ◌/◌, ◌^◌, ◌<◌, ◌≤◌, le_trans, add-le-add, div-mul-le_self, mul-le-mul, div-one, le-div_iff_mul-le, add-one, arith}
 use Rattle.limits.specs.Limits.{midsection_factor}
-use native.Mathlib.Decide.{dec_lt}
-use native.Mathlib.Nat.{div-le_of_le-mul, div-eq_of_eq-mul_left}
+use Rattle.std.proofs.Math.Decide.{dec_lt}
+use Rattle.std.proofs.Math.Nat.{div-le_of_le-mul, div-eq_of_eq-mul_left}
 use Rattle.geometry.specs.Geometry.{terms, ratio, series_logarithm, logarithm_of_three, logarithm}
 
 -- the term numbered k, and those after it

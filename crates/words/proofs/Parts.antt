@@ -1,6 +1,6 @@
 -- A word by its halves of 32 bits, as the code takes them, and a number by its two words.
 use Rattle.std.proofs.Common.{◌≡◌, ℕ, ◌+◌, ◌*◌, ◌/◌, ◌%◌, ◌^◌, ap, ◌∙◌, div-add-mod', bit_and}
-use lib.Bits.{and_mask}
+use Rattle.std.specs.Int.Bits.{and_mask}
 
 pub halves : (n : ℕ) → n / 2 ^ 32 * 2 ^ 32 + bit_and n 0xffff_ffff ≡ n
 halves n = rw (and_mask n 32) (div-add-mod' n (2 ^ 32))

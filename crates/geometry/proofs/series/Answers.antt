@@ -1,6 +1,6 @@
 -- `geometry::series`: the sum so far and the terms that are left make up the whole sum.
 use Rattle.std.proofs.Common.{◌≡◌, ◌+◌, ◌*◌, ◌-◌, ◌/◌, ◌^◌, ◌≤◌, div-le_self, arith}
-use native.Mathlib.Nat.{div-le_of_le-mul}
+use Rattle.std.proofs.Math.Nat.{div-le_of_le-mul}
 use Rattle.geometry.specs.Geometry.{terms}
 use Rattle.geometry.proofs.Laws.{one_more, none_left, product_at_most}
 use Rattle.geometry.proofs.series.Goals as goal

@@ -1,6 +1,6 @@
 -- `geometry::series_logarithm`: z is at most 2^29 and above 0.
 use Rattle.std.proofs.Common.{◌≡◌, ap, ℕ, ◌*◌, ◌^◌, ◌≤◌, ◌<◌, arith}
-use native.Mathlib.Nat.{div-le_of_le-mul}
+use Rattle.std.proofs.Math.Nat.{div-le_of_le-mul}
 use Rattle.geometry.specs.Geometry.{ratio, series_logarithm, logarithm_of_three}
 use Rattle.geometry.proofs.Laws.{ratio_small, series_above, series_most, square_at_most}
 use Rattle.geometry.proofs.series_logarithm.Goals as goal

@@ -1,8 +1,8 @@
 -- `words::divide::by_full_width` meets its contract: long division of three digits, the first two of them in top * 2^32 + next.
 use Rattle.std.proofs.Common.{◌≡◌, ℕ, ◌+◌, ◌*◌, ◌/◌, ◌%◌, ◌^◌, ◌<◌, sym, ap, ◌∙◌, lt_of_lt_of_le, mod-lt, div-mul-le_self, arith, bit_and}
-use lib.Arith.{digits_lt}
-use lib.Bits.{mask_lt}
-use mir.Facts.{Fits-cat}
+use Rattle.std.proofs.Math.Arith.{digits_lt}
+use Rattle.std.specs.Int.Bits.{mask_lt}
+use Rattle.std.proofs.Math.Facts.{Fits-cat}
 use Rattle.laws.specs.Divide.{carried, digit_below}
 use Rattle.words.proofs.Parts.{halves}
 use Rattle.words.proofs.divide.by_full_width.Goals as goal

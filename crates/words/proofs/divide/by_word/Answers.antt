@@ -1,9 +1,10 @@
 -- `words::divide::by_word` meets its contract: the leading zeros of the divisor bring it to full width, and the dividend shifted alike has
 -- the same quotient.
 use Rattle.std.proofs.Common.{◌≡◌, ℕ, suc, ◌+◌, ◌-◌, ◌*◌, ◌/◌, ◌%◌, ◌^◌, ◌<◌, ◌≤◌, sym, ap, ◌∙◌, subst, ap₂, le_trans, lt_trans, le_of_eq, mul-le-mul_right, mod-eq_of_lt, div-lt_iff_lt-mul, mul-lt-mul_of_pos_right, arith, pow_pos, pow-add, shl_lt}
-use native.Mathlib.Nat.{div-div-eq-div-mul, mul-div-mul_right}
-use lib.Arith.{digits_lt}
-use lib.Count.{count_leading_zeros, leading_top}
+use Rattle.std.proofs.Math.Nat.{div-div-eq-div-mul, mul-div-mul_right}
+use Rattle.std.proofs.Math.Arith.{digits_lt}
+use Rattle.std.specs.Int.Count.{count_leading_zeros}
+use Rattle.std.proofs.lemmas.Nat.{leading_top}
 use Rattle.laws.specs.Divide.{shifted}
 use Rattle.words.proofs.divide.by_word.Goals as goal
 

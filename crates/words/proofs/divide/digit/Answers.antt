@@ -1,6 +1,6 @@
 -- `words::divide::digit` meets its contract: the law of an estimated digit (`laws`, Divide) at the base 2^32.
 use Rattle.std.proofs.Common.{ℕ, ◌/◌, ◌^◌, ◌<◌, ◌≤◌, arith, bit_and}
-use lib.Bits.{mask_lt}
+use Rattle.std.specs.Int.Bits.{mask_lt}
 use Rattle.laws.specs.Divide.{Step, Less, two_enough, exact, less}
 use Rattle.words.proofs.Parts.{halves}
 use Rattle.words.proofs.divide.digit.Goals as goal
