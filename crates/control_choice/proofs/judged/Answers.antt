@@ -1,5 +1,5 @@
 -- `control_choice::judged`: 14 by a trial with no step, then 20, then the rates.
-use Rattle.std.proofs.Common.{◌≡◌, sym, ◌∙◌, Bool}
+use Rattle.std.proofs.Common.{◌≡◌, sym, ap, ◌∙◌, Bool, Ok}
 use Rattle.record.specs.declared.Record.{Record}
 use Rattle.step.specs.Repeat.{repeat_of}
 use Rattle.validity.specs.Validity.{valid}
@@ -21,7 +21,7 @@ returns-then-not-list_holds c = answer_20 _ _ _ _ (passed _ c.all_taken.ensures 
 
 pub highest-requires : goal.highest-requires
 highest-requires c =
-    let h = holds _ _ (sym c.list_holds.ensures ∙ c.if-not-list_holds.false) in (passed _ c.all_taken.ensures c.if-not-all_taken.false, h.some, above_rising _ h.rise)
+    let h = holds _ _ (sym c.list_holds.ensures ∙ c.if-not-list_holds.false) in (passed _ c.all_taken.ensures c.if-not-all_taken.false, above_rising _ h.rise)
 
 pub returns : goal.returns
-returns c = c.highest.ensures ∙ answer_choice _ _ _ _ (passed _ c.all_taken.ensures c.if-not-all_taken.false) (sym c.list_holds.ensures ∙ c.if-not-list_holds.false)
+returns c = ap Ok c.highest.ensures ∙ answer_choice _ _ _ _ (passed _ c.all_taken.ensures c.if-not-all_taken.false) (sym c.list_holds.ensures ∙ c.if-not-list_holds.false)

@@ -1,22 +1,15 @@
 -- The highest number of a list that passes a test: laws only, nothing to believe.
---     Fits                what a choice from a list has to be; fits_choice: the definition's is; one_fits: and no other
+--     Fits                what a choice from a list has to be; fits_best: the definition's is; one_fits: and no other
 --     later_above         in a list that rises a later number is above an earlier one; above_rising: and such a list rises
-use Rattle.std.specs.Prelude.{◌≡◌, Bool, cond, ◌⊎◌, length}
-use Rattle.std.proofs.Math.Path.{refl, ap, subst}
-use Rattle.std.proofs.Common.{sym, ◌∙◌, true≢false, inr, le_of_suc-le-suc, not-suc-le-zero, eq-or-lt_of_le}
-use Rattle.std.proofs.Math.Bool.{true, false}
-use mathlib.Core.List.{List, [], ◌∷◌}
-use Rattle.std.proofs.Math.Logic.{inl, ⊎_elim}
-use Prim.Native.Nat.{ℕ, zero, suc, ◌-◌, ◌<◌, ◌≤◌}
+--     last_passing        in such a list it is the first from the end that passes
+use Rattle.std.proofs.Common.{◌≡◌, Bool, cond, ◌⊎◌, length, Option, Some, None, find, reverse, refl, ap, subst, sym, ◌∙◌, true≢false, inr, le_of_suc-le-suc, not-suc-le-zero, eq-or-lt_of_le, true, false, List, [], ◌∷◌, inl, ⊎_elim, ℕ, zero, suc, ◌-◌, ◌<◌, ◌≤◌, arith, ltb-true, ltb-false, lt-ltb, ltb, get_or}
 use Rattle.std.proofs.Math.Decide.{dec_lt}
-use native.Mathlib.Omega.{arith}
-use borrow.Author.Tests.{ltb-true, ltb-false, lt-ltb}
-use Rattle.std.proofs.Math.Dec.{ltb}
-use Rattle.std.proofs.Math.ListN.{get_or}
+use Rattle.std.specs.Option.{option_or}
+use Rattle.std.proofs.lemmas.List.{reverse-append}
+use Rattle.std.proofs.lemmas.List.Folds.{find-append}
 use Rattle.laws.specs.All.{all_at}
 use Rattle.laws.specs.Rows.{all_from}
-use Rattle.control_choice.specs.declared.Choice.{Choice}
-use Rattle.control_choice.specs.Choice.{rising, passing, highest_of, choice_of}
+use Rattle.control_choice.specs.Choice.{rising, passing, highest_of, best_of}
 use Rattle.control_choice.specs.Chooses.{Stands}
 
 -- ---- what stands on a list with one number in front
@@ -36,10 +29,9 @@ front_or_behind {a} {x} {l} s = in_place s.at s.within s.is
 
 module _ (t : ℕ → Bool) where
   -- the highest number of l that passes t, or none where none passes
-  unfoldable pub Fits : List ℕ → Choice → Type 0
-  Fits l (Choice.Rate x) = Stands l x × (t x ≡ true) × ((y : ℕ) → Stands l y → x < y → t y ≡ false)
-  Fits l Choice.NoRate = (y : ℕ) → Stands l y → t y ≡ false
-  Fits l (Choice.Refused n) = ⊥
+  unfoldable pub Fits : List ℕ → Option ℕ → Type 0
+  Fits l (Some x) = Stands l x × (t x ≡ true) × ((y : ℕ) → Stands l y → x < y → t y ≡ false)
+  Fits l None = (y : ℕ) → Stands l y → t y ≡ false
 
   -- ---- the definition's choice
 
@@ -88,7 +80,7 @@ module _ (t : ℕ → Bool) where
       by_test false f same more = best_fails f same
 
   -- a number in front that passes, and one that fails
-  first_fits : {a z : ℕ} {l : List ℕ} → Best l a z → Fits (a ∷ l) (Choice.Rate z)
+  first_fits : {a z : ℕ} {l : List ℕ} → Best l a z → Fits (a ∷ l) (Some z)
   unfolding Fits
   first_fits {a} {z} {l} b = (
     ⊎_elim (λ e. subst (λ (x : ℕ). Stands (a ∷ l) x) e in_front) (λ s. behind s) b.from,
@@ -96,24 +88,23 @@ module _ (t : ℕ → Bool) where
     λ y s h. ⊎_elim (λ e. absurd (omega (arith, b.above, e, h))) (λ s. b.others y s h) (front_or_behind s),
   )
 
-  failing_front : {a : ℕ} (l : List ℕ) → t a ≡ false → (c : Choice) → Fits l c → Fits (a ∷ l) c
+  failing_front : {a : ℕ} (l : List ℕ) → t a ≡ false → (c : Option ℕ) → Fits l c → Fits (a ∷ l) c
   unfolding Fits
-  failing_front l f (Choice.Rate x) g = (behind g.0, g.1, λ y s h. ⊎_elim (λ e. ap t (sym e) ∙ f) (λ s. g.2 y s h) (front_or_behind s))
-  failing_front l f Choice.NoRate g = λ y s. ⊎_elim (λ e. ap t (sym e) ∙ f) (λ s. g y s) (front_or_behind s)
-  failing_front l f (Choice.Refused n) g = g
+  failing_front l f (Some x) g = (behind g.0, g.1, λ y s h. ⊎_elim (λ e. ap t (sym e) ∙ f) (λ s. g.2 y s h) (front_or_behind s))
+  failing_front l f None g = λ y s. ⊎_elim (λ e. ap t (sym e) ∙ f) (λ s. g y s) (front_or_behind s)
 
-  pub fits_choice : (l : List ℕ) → Fits l (choice_of 0 (passing t l))
-  unfolding Fits choice_of passing
-  fits_choice [] = λ y s. absurd (not-suc-le-zero s.within)
-  fits_choice (a ∷ l) = by_test (t a) refl (fits_choice l)
+  pub fits_best : (l : List ℕ) → Fits l (best_of (passing t l))
+  unfolding Fits best_of passing
+  fits_best [] = λ y s. absurd (not-suc-le-zero s.within)
+  fits_best (a ∷ l) = by_test (t a) refl (fits_best l)
     where
-      by_test : (s : Bool) → t a ≡ s → Fits l (choice_of 0 (passing t l)) → Fits (a ∷ l) (choice_of 0 (cond s (a ∷ passing t l) (passing t l)))
+      by_test : (s : Bool) → t a ≡ s → Fits l (best_of (passing t l)) → Fits (a ∷ l) (best_of (cond s (a ∷ passing t l) (passing t l)))
       by_test true f more = first_fits (best l a f)
-      by_test false f more = failing_front l f (choice_of 0 (passing t l)) more
+      by_test false f more = failing_front l f (best_of (passing t l)) more
 
   -- ---- no other fits
 
-  one_highest : (l : List ℕ) (x y : ℕ) → Fits l (Choice.Rate x) → Fits l (Choice.Rate y) → x ≡ y
+  one_highest : (l : List ℕ) (x y : ℕ) → Fits l (Some x) → Fits l (Some y) → x ≡ y
   unfolding Fits
   one_highest l x y f g =
       elim (dec_lt x y) [
@@ -121,15 +112,31 @@ module _ (t : ℕ → Bool) where
         | no a ↦ elim (dec_lt y x) [ yes h ↦ absurd (true≢false (sym f.1 ∙ g.2 x f.0 h)) | no b ↦ omega arith ]
       ]
 
-  pub one_fits : (l : List ℕ) (a b : Choice) → Fits l a → Fits l b → a ≡ b
+  pub one_fits : (l : List ℕ) (a b : Option ℕ) → Fits l a → Fits l b → a ≡ b
   unfolding Fits
-  one_fits l (Choice.Rate x) (Choice.Rate y) f g = ap Choice.Rate (one_highest l x y f g)
-  one_fits l (Choice.Rate x) Choice.NoRate f g = absurd (true≢false (sym f.1 ∙ g x f.0))
-  one_fits l Choice.NoRate (Choice.Rate y) f g = absurd (true≢false (sym g.1 ∙ f y g.0))
-  one_fits l Choice.NoRate Choice.NoRate f g = refl
-  one_fits l (Choice.Refused n) b f g = absurd f
-  one_fits l (Choice.Rate x) (Choice.Refused n) f g = absurd g
-  one_fits l Choice.NoRate (Choice.Refused n) f g = absurd g
+  one_fits l (Some x) (Some y) f g = ap Some (one_highest l x y f g)
+  one_fits l (Some x) None f g = absurd (true≢false (sym f.1 ∙ g x f.0))
+  one_fits l None (Some y) f g = absurd (true≢false (sym g.1 ∙ f y g.0))
+  one_fits l None None f g = refl
+
+  -- ---- in a list that rises it is the first from the end that passes
+
+  last_fits : (l : List ℕ) → ((i j : ℕ) → i < j → j < length l → get_or l i 0 < get_or l j 0) → Fits l (find t (reverse l))
+  unfolding Fits
+  last_fits [] up = λ y s. absurd (not-suc-le-zero s.within)
+  last_fits (a ∷ l) up =
+      rw (reverse-append (a ∷ []) l, find-append) (by_rest (find t (reverse l)) (last_fits l (λ i j h k. up (suc i) (suc j) (omega arith) (omega arith))))
+    where
+      front : (s : Bool) → t a ≡ s → ((y : ℕ) → Stands l y → t y ≡ false) → Fits (a ∷ l) (cond s (Some a) None)
+      front true f g = (in_front, f, λ y s h. ⊎_elim (λ e. absurd (omega (arith, e, h))) (λ s. g y s) (front_or_behind s))
+      front false f g = λ y s. ⊎_elim (λ e. ap t (sym e) ∙ f) (λ s. g y s) (front_or_behind s)
+
+      by_rest : (r : Option ℕ) → Fits l r → Fits (a ∷ l) (option_or r (cond (t a) (Some a) None))
+      by_rest (Some x) g =
+          let s : Stands l x = g.0 in
+          let after : a < get_or l s.at 0 = up 0 (suc s.at) (omega arith) (omega (arith, s.within)) in
+          (behind s, g.1, λ y f h. ⊎_elim (λ e. absurd (omega (arith, after, s.is, e, h))) (λ f. g.2 y f h) (front_or_behind f))
+      by_rest None g = front (t a) refl g
 
 -- ---- a list that rises
 
@@ -148,3 +155,11 @@ module _ (rates : List ℕ) where
   pub above_rising : ((i j : ℕ) → i < j → j < length rates → get_or rates i 0 < get_or rates j 0) → rising rates ≡ true
   unfolding rising
   above_rising f = all_from _ (length rates - 1) (λ k h. lt-ltb _ _ (f k (suc k) (omega arith) (omega arith)))
+
+-- the first that passes from the end of a list that rises, of whatever test says the same
+pub last_passing : {u t : ℕ → Bool} → ((x : ℕ) → u x ≡ t x) → (rates : List ℕ) → rising rates ≡ true → find u (reverse rates) ≡ best_of (passing t rates)
+last_passing {u} {t} e rates up = same (reverse rates) ∙ one_fits t rates (find t (reverse rates)) _ (last_fits t rates (later_above rates up)) (fits_best t rates)
+  where
+    same : (l : List ℕ) → find u l ≡ find t l
+    same [] = refl
+    same (x ∷ l) = rw (e x) (ap (cond (t x) (Some x)) (same l))

@@ -4,16 +4,12 @@
 --     all_accepted_lem        where all of n steps are accepted, each is; accepted_all: the other way round
 --     meets_refused       where not all of them are, one is refused; refused_meets: the other way round
 --     as_repeat           all of it in what `repeat` answers
-use Rattle.std.specs.Prelude.{◌≡◌, Bool, ◌&&◌}
-use Rattle.std.proofs.Math.Path.{refl}
-use Rattle.std.proofs.Common.{sym, ap, ◌∙◌, true≢false, le_of_suc-le-suc, not-suc-le-zero, arith}
-use Rattle.std.proofs.Math.Bool.{true, false}
-use Prim.Native.Nat.{ℕ, zero, suc}
-use Rattle.refusals.specs.Refusals.{outcome_of}
+use Rattle.std.proofs.Common.{◌≡◌, Bool, ◌&&◌, Result, Ok, Err, refl, sym, ap, ◌∙◌, true≢false, le_of_suc-le-suc, not-suc-le-zero, arith, true, false, ℕ, zero, suc}
+use Rattle.refusals.specs.Refusals.{refusal, given, outcome_of}
 use Rattle.laws.specs.All.{and_left, and_right}
 use Rattle.laws.specs.Rows.{both_hold}
 use Rattle.record.specs.declared.Record.{Record}
-use Rattle.record.specs.declared.Outcome.{Outcome}
+use Rattle.refusals.specs.declared.Refusal.{Refusal}
 use Rattle.record.specs.declared.Repeated.{Repeated}
 use Rattle.record.specs.Record.{repeated_of}
 use Rattle.validity.specs.Validity.{valid}
@@ -27,22 +23,22 @@ use Rattle.control_choice.specs.Chooses.{record_after, AllAccepted, MeetsRefused
 
 -- ---- an outcome
 
-taken_is : (o : Outcome) → is_taken o ≡ true → o ≡ outcome_of 0
-unfolding is_taken outcome_of
-taken_is Outcome.Taken e = refl
-taken_is (Outcome.Refused n) e = absurd (true≢false (sym e))
+taken_is : (o : Result Unit Refusal) → is_taken o ≡ true → o ≡ outcome_of 0
+unfolding is_taken given
+taken_is (Ok tt) e = refl
+taken_is (Err k) e = absurd (true≢false (sym e))
 
-is_taken_lem : {o : Outcome} → o ≡ outcome_of 0 → is_taken o ≡ true
-unfolding is_taken outcome_of
+is_taken_lem : {o : Result Unit Refusal} → o ≡ outcome_of 0 → is_taken o ≡ true
+unfolding is_taken given
 is_taken_lem e = rw e
 
-is_refused : {o : Outcome} (k : ℕ) → o ≡ outcome_of (suc k) → is_taken o ≡ false
-unfolding is_taken outcome_of
+is_refused : {o : Result Unit Refusal} (k : ℕ) → o ≡ outcome_of (suc k) → is_taken o ≡ false
+unfolding is_taken given
 is_refused k e = rw e
 
 -- one that a number gives, 0 for taken
-refused_is : {o : Outcome} (m : ℕ) → o ≡ outcome_of m → is_taken o ≡ false → (k : ℕ) × (o ≡ outcome_of (suc k))
-unfolding is_taken outcome_of
+refused_is : {o : Result Unit Refusal} (m : ℕ) → o ≡ outcome_of m → is_taken o ≡ false → (k : ℕ) × (o ≡ outcome_of (suc k))
+unfolding is_taken given
 refused_is zero n e = absurd (true≢false (sym (is_taken_lem n) ∙ e))
 refused_is (suc k) n e = (k, n)
 
@@ -50,7 +46,7 @@ refused_is (suc k) n e = (k, n)
 
 module _ (rate dt : ℕ) where
   pub repeat_judges : (r : Record) → is_taken (repeat_of r rate dt 0).outcome ≡ valid r
-  unfolding outcome_of
+  unfolding refusal given
   repeat_judges r = by_test (valid r) refl
     where
       by_test : (t : Bool) → valid r ≡ t → is_taken (repeat_of r rate dt 0).outcome ≡ t
@@ -58,14 +54,14 @@ module _ (rate dt : ℕ) where
       by_test false e = is_refused 13 (sym (ap (λ x. x.outcome) (repeat_14 rate dt r 0 e)))
 
   -- the first of some steps, by the number that forbids it
-  by_refusal : (k taken : ℕ) (r : Record) (next : Repeated) (t : Bool) {o : Outcome} → o ≡ outcome_of k → is_taken next.outcome ≡ t
+  by_refusal : (k taken : ℕ) (r : Record) (next : Repeated) (t : Bool) {o : Result Unit Refusal} → o ≡ outcome_of k → is_taken next.outcome ≡ t
       → is_taken (onward k r taken next).outcome ≡ (is_taken o && t)
-  unfolding onward repeated_of is_taken outcome_of
+  unfolding onward repeated_of is_taken given
   by_refusal zero taken r next t e more = rw e more
   by_refusal (suc k) taken r next t e more = rw e
 
   steps_accepted : (n taken : ℕ) (r : Record) → is_taken (steps_of rate dt taken n r).outcome ≡ all_accepted rate dt n r
-  unfolding steps_of all_accepted repeated_of outcome_of is_taken
+  unfolding steps_of all_accepted repeated_of given is_taken
   steps_accepted zero taken r = refl
   steps_accepted (suc n) taken r = by_refusal (step_refusal r rate dt) taken r _ _ (step_outcome r rate dt) (steps_accepted n (suc taken) (step_of r rate dt).«record»)
 
