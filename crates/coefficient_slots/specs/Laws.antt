@@ -4,18 +4,14 @@
 --     used_slot_lem            the slot of a cell is used; by_slot: every used slot is a cell's
 --     coefficients_ext     grids whose C and S pass the limits alike (Alike) pass the test alike
 --     unused_slots         UnusedSlots: what the test of unused slots says of each slot
---     all_listed           a test of every element with its place is that of every place
 --     slots-coefficients   the test of a record's slots is that of its coefficients and of its unused slots
-use Rattle.std.proofs.Common.{◌≡◌, Bool, ◌||◌, get_or, refl, sym, ap, ap₂, subst, ◌∙◌, arith, true, false, cond, ◌&&◌, List, [], ◌∷◌, ◌++◌, map, ℕ, zero, suc, ◌+◌, ◌-◌, ◌/◌, ◌%◌, ◌≤◌, ◌<◌, zero-le, leb-true, ltb-true, lt-ltb, le-leb, leb, ltb, eqb, length, zero-add}
-use Rattle.std.specs.List.{list_all, enumerate_from}
-use Rattle.std.proofs.lemmas.List.FromFn.{length-enumerate_from, get_or-enumerate_from}
+use Rattle.std.proofs.Common.{◌≡◌, Bool, ◌||◌, get_or, refl, sym, ap, ap₂, subst, ◌∙◌, arith, true, false, cond, ◌&&◌, List, [], ◌∷◌, ◌++◌, map, ℕ, zero, suc, ◌+◌, ◌-◌, ◌/◌, ◌%◌, ◌≤◌, ◌<◌, zero-le, leb-true, ltb-true, lt-ltb, le-leb, leb, ltb, eqb}
 use mathlib.Core.List.{flat_map}
 use Rattle.std.proofs.Math.Bool.{and-true}
 use Rattle.std.proofs.lemmas.Bool.{false≢true}
 use Rattle.laws.specs.Lists.{all_below, every, range}
 use Rattle.laws.specs.All.{all_at, and_left, and_right}
-use Rattle.laws.specs.Every.{every_append, every_at}
-use Rattle.laws.specs.Pointwise.{every_from}
+use Rattle.laws.specs.Every.{every_append}
 use Rattle.laws.specs.Rows.{both_hold, same_test, four_hold, all_from, all_ext, every_map, every-flat_map, range_at, range_from}
 use Rattle.limits.specs.Limits.{conductance_limit, storage_limit, between}
 use Rattle.network.specs.Network.{Face}
@@ -158,24 +154,6 @@ coefficients_ext G H a = same_test (coefficients_hold G) (coefficients_hold H) f
           down = λ i j h one k. leb-true _ _ (a.down i j h one k ∙ le-leb _ _ (c.down i j (omega (arith, a.layers)) one (omega (arith, a.columns))));
           storage = λ i j h one k. within 1 storage_limit (G.storage i j) (a.storage i j h one k ∙ between_from (c.storage i j (omega (arith, a.layers)) one (omega (arith, a.columns))));
         })
-
--- ---- a test of every element of a list with its place, as a chain's `all` makes it
-every_is : {A : Type 0} (p : A → Bool) (l : List A) → list_all p l ≡ every p l
-unfolding every
-every_is p [] = refl
-every_is p (a ∷ l) = ap (p a &&◌) (every_is p l)
-
-module _ {A : Type 0} (d : A) (t : ℕ → A → Bool) where
-  pub all_listed : (l : List A) (n : ℕ) → length l ≡ n → list_all (λ p. t p.0 p.1) (enumerate_from 0 l) ≡ all_below n (λ k. t k (get_or l k d))
-  all_listed l n e =
-      every_is (λ p. t p.0 p.1) (enumerate_from 0 l)
-      ∙ same_test _ _
-      (λ q. all_from (λ k. t k (get_or l k d)) n (λ k h. rw (at k (omega arith)) at (every_at (λ p. t p.0 p.1) (enumerate_from 0 l) k (0, d) q (omega (arith, length-enumerate_from 0 l)))))
-      (λ q. every_from (λ p. t p.0 p.1) (enumerate_from 0 l) (0, d)
-      (λ k h. let lt : k < length l = omega (arith, length-enumerate_from 0 l) in rw (at k lt) (all_at (λ k. t k (get_or l k d)) n k q (omega arith))))
-    where
-      at : (k : ℕ) → k < length l → get_or (enumerate_from 0 l) k (0, d) ≡ (k, get_or l k d)
-      at k h = get_or-enumerate_from 0 l k (0, d) h ∙ ap (λ m. (m, get_or l k d)) (zero-add k)
 
 -- ---- a test of a slot by whether it is used: what it says of a used slot and of one that is not
 pub used_held : (u b z : Bool) → cond u b z ≡ true → u ≡ true → b ≡ true

@@ -1,4 +1,5 @@
 pub mod All
+pub mod Chains
 pub mod Divide
 pub mod Every
 pub mod Fill

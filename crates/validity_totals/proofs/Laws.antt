@@ -2,33 +2,9 @@
 use Rattle.std.proofs.Common.{◌≡◌, refl, sym, ap, ◌∙◌, ℕ, ◌+◌, ◌-◌, ◌≤◌, ◌<◌, Bool, true, ◌&&◌, List, [], ◌∷◌, length, arith, pos, ℤ, nat_abs, get_or, zero-add, to_z-of_z, negsuc, le-leb, zero-le, eqb, of_z, w64}
 use Rattle.std.proofs.lemmas.Bool.{false≢true}
 use Rattle.std.specs.Int.Signed.{le_z, non_neg}
-use Rattle.std.specs.List.{list_all, enumerate_from}
-use Rattle.std.proofs.lemmas.List.FromFn.{length-enumerate_from, get_or-enumerate_from}
-use Rattle.laws.specs.All.{all_at}
-use Rattle.laws.specs.Every.{every_at}
-use Rattle.laws.specs.Lists.{all_below, every, sumℕ, range}
-use Rattle.laws.specs.Pointwise.{every_from}
-use Rattle.laws.specs.Rows.{same_test, all_from}
+use Rattle.laws.specs.Lists.{sumℕ, range}
 use Rattle.laws.specs.RowSums.{sum_more, sum_parts}
 use Rattle.validity_totals.specs.Totals.{loss_sum}
-
--- ---- a test of each element with its place
-every_is : {A : Type 0} (p : A → Bool) (l : List A) → list_all p l ≡ every p l
-unfolding every
-every_is p [] = refl
-every_is p (a ∷ l) = ap (p a &&◌) (every_is p l)
-
-module _ {A : Type 0} (d : A) (t : ℕ → A → Bool) where
-  pub all_listed : (l : List A) (n : ℕ) → length l ≡ n → list_all (λ p. t p.0 p.1) (enumerate_from 0 l) ≡ all_below n (λ k. t k (get_or l k d))
-  all_listed l n e =
-      every_is (λ p. t p.0 p.1) (enumerate_from 0 l)
-      ∙ same_test _ _
-      (λ q. all_from (λ k. t k (get_or l k d)) n (λ k h. rw (at k (omega arith)) at (every_at (λ p. t p.0 p.1) (enumerate_from 0 l) k (0, d) q (omega (arith, length-enumerate_from 0 l)))))
-      (λ q. every_from (λ p. t p.0 p.1) (enumerate_from 0 l) (0, d)
-      (λ k h. let lt : k < length l = omega (arith, length-enumerate_from 0 l) in rw (at k lt) (all_at (λ k. t k (get_or l k d)) n k q (omega arith))))
-    where
-      at : (k : ℕ) → k < length l → get_or (enumerate_from 0 l) k (0, d) ≡ (k, get_or l k d)
-      at k h = get_or-enumerate_from 0 l k (0, d) h ∙ ap (λ m. (m, get_or l k d)) (zero-add k)
 
 -- ---- a loss in its slot
 pub sign_is : (v : ℤ) → le_z (pos 0) v ≡ non_neg v

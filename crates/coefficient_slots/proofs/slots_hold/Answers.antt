@@ -4,7 +4,7 @@ use Rattle.std.proofs.lemmas.Iterator.{YieldsList-from_slice}
 use Rattle.std.proofs.lemmas.Iterator.Consumers.{YieldsList-from_enumerate}
 use Rattle.std.proofs.lemmas.Iterator.Search.{all_from_yields_List}
 use Rattle.coefficient_slots.specs.Held.{slot_holds, array_holds}
-use Rattle.coefficient_slots.specs.Laws.{all_listed}
+use Rattle.laws.specs.Chains.{all_listed}
 use Rattle.coefficient_slots.proofs.slots_hold.Goals as goal
 
 pub returns : goal.returns

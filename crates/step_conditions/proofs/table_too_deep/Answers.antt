@@ -4,7 +4,7 @@ use Rattle.std.specs.List.{list_any, list_all, range_with_len}
 use Rattle.std.proofs.lemmas.Iterator.{YieldsList-from_range}
 use Rattle.std.proofs.lemmas.Iterator.Search.{any_from_yields_List}
 use Rattle.validity_drawdowns.specs.Drawdowns.{deeper}
-use Rattle.validity_drawdowns.proofs.Laws.{all_counted}
+use Rattle.laws.specs.Chains.{all_counted}
 use Rattle.step_conditions.specs.Conditions.{table_within}
 use Rattle.step_conditions.proofs.table_too_deep.Goals as goal
 

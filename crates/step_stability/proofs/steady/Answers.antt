@@ -2,7 +2,7 @@
 use Rattle.std.proofs.Common.{sym, ◌∙◌, ℕ, Bool, ◌*◌, refl, arith, rules, tests}
 use Rattle.std.proofs.lemmas.Iterator.{YieldsList-from_range}
 use Rattle.std.proofs.lemmas.Iterator.Search.{all_from_yields_List}
-use Rattle.validity_drawdowns.proofs.Laws.{all_counted}
+use Rattle.laws.specs.Chains.{all_counted}
 use Rattle.step_stability.specs.Stability.{cell_steady, slots_steady}
 use Rattle.step_stability.proofs.steady.Goals as goal
 

@@ -3,7 +3,7 @@ use Rattle.std.proofs.Common.{ℕ, Bool, ◌*◌, refl, get_or, pos, rules, test
 use Rattle.std.proofs.lemmas.Iterator.{YieldsList-from_range}
 use Rattle.std.proofs.lemmas.Iterator.Search.{all_from_yields_List}
 use Rattle.validity_drawdowns.specs.Drawdowns.{depth_slot_holds, depth_slots_hold}
-use Rattle.validity_drawdowns.proofs.Laws.{all_counted}
+use Rattle.laws.specs.Chains.{all_counted}
 use Rattle.validity_drawdowns.proofs.depth_slots_hold.Goals as goal
 
 pub returns : goal.returns

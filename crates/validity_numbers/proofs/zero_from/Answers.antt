@@ -1,17 +1,11 @@
 -- `validity_numbers::zero_from`: what a chain's `all` gives is the test of every element.
-use Rattle.std.proofs.Common.{◌≡◌, refl, ap, ◌∙◌, Bool, ◌&&◌, List, [], ◌∷◌, rules, tests, eqb, drop}
-use Rattle.std.specs.List.{list_all}
+use Rattle.std.proofs.Common.{◌∙◌, rules, tests, eqb, drop}
 use Rattle.std.proofs.lemmas.Iterator.{YieldsList-from_slice}
 use Rattle.std.proofs.lemmas.Iterator.Adapters.{YieldsList-from_skip}
 use Rattle.std.proofs.lemmas.Iterator.Search.{all_from_yields_List}
-use Rattle.laws.specs.Lists.{every}
+use Rattle.laws.specs.Chains.{every_is}
 use Rattle.validity_numbers.specs.Numbers.{zero_from}
 use Rattle.validity_numbers.proofs.zero_from.Goals as goal
-
-every_is : {A : Type 0} (p : A → Bool) (l : List A) → list_all p l ≡ every p l
-unfolding every
-every_is p [] = refl
-every_is p (a ∷ l) = ap (p a &&◌) (every_is p l)
 
 pub returns : goal.returns
 unfolding zero_from

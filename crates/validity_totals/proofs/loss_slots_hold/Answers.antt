@@ -4,7 +4,7 @@ use Rattle.std.proofs.lemmas.Iterator.{YieldsList-from_slice}
 use Rattle.std.proofs.lemmas.Iterator.Consumers.{YieldsList-from_enumerate}
 use Rattle.std.proofs.lemmas.Iterator.Search.{all_from_yields_List}
 use Rattle.validity_totals.specs.Totals.{loss_slot_holds, loss_slots_hold}
-use Rattle.validity_totals.proofs.Laws.{all_listed}
+use Rattle.laws.specs.Chains.{all_listed}
 use Rattle.validity_totals.proofs.loss_slots_hold.Goals as goal
 
 pub returns : goal.returns
