@@ -2,8 +2,7 @@
 -- A text is the list of its bytes.
 use Rattle.std.specs.Prelude.{Option, Some, None, Bool, true, false, ◌&&◌, ◌||◌, not, cond, List, [], ◌∷◌, ◌++◌, ℕ, zero, suc, ◌+◌, ◌-◌, ◌*◌, ◌/◌, ◌%◌, ◌^◌, leb, ltb, eqb, length, get_or}
 use Rattle.limits.specs.Limits.{digit_limit}
-use Rattle.laws.specs.Lists.{every, padded}
-use Rattle.decimal.specs.declared.Digits.{Digits}
+use Rattle.laws.specs.Lists.{every}
 
 -- the byte of the digit 0
 abbrev pub zero_byte : ℕ
@@ -42,7 +41,3 @@ digits_of n = digits_in n n
 -- a word has at most 20 digits
 abbrev pub digit_places : ℕ
 digit_places = 20
-
--- the digits of n in an array, with 0 after the last
-unfoldable pub written_of : ℕ → Digits
-written_of n = record { count = length (digits_of n); bytes = padded digit_places 0 (digits_of n) }

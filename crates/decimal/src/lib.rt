@@ -1,11 +1,12 @@
 // Decimal whole numbers: digits to number and number to digits.
 #![tactic(auto)]
 
-ghost use Rattle.std.specs.Prelude.{◌≡◌, true, cond, Some, None, ◌+◌, ◌-◌, ◌*◌, ◌^◌, ◌≤◌, ◌<◌, length, set};
+ghost use Rattle.std.specs.Prelude.{◌≡◌, true, cond, Some, None, ◌+◌, ◌-◌, ◌*◌, ◌^◌, ◌≤◌, ◌<◌, length};
 ghost use Rattle.laws.specs.Lists.{every};
 ghost use Rattle.limits.specs.Limits.{digit_limit};
-ghost use Rattle.decimal.specs.Decimal.{zero_byte, is_digit, value, decimal_of, digit_places, written_of};
+ghost use Rattle.decimal.specs.Decimal.{zero_byte, is_digit, value, decimal_of, digits_of};
 
+use arrayvec::ArrayVec;
 use limits::DIGIT_LIMIT;
 
 // The byte of the digit 0.
@@ -13,13 +14,6 @@ const ZERO: u8 = b'0';
 
 // The most digits of a word.
 const DIGIT_PLACES: usize = 20;
-
-// The digits of a number, the most significant first, and 0 after the last. No ArrayVec: the definition `written_of` and listing_lines name this form.
-#[derive(Clone, Copy)]
-pub struct Digits {
-    pub count: usize,
-    pub bytes: [u8; DIGIT_PLACES],
-}
 
 // The number with one digit more at its end.
 fn joined(v: u64, c: u8) -> u64
@@ -60,31 +54,15 @@ pub fn read(s: &[u8]) -> Option<u64>
     read_digits(s)
 }
 
-// The digits with one more after the last.
-fn followed(d: Digits, digit: u64) -> Digits
-    requires { (d.count < digit_places) × (digit < 10) }
-    ensures { result ≡ record { count = d.count + 1; bytes = set d.bytes d.count (zero_byte + digit) } }
-{
-    let at = d.count;
-    let mut bytes = d.bytes;
-    bytes[at] = ZERO + digit as u8;
-    Digits {
-        count: at + 1,
-        bytes,
-    }
-}
-
 // A number written in decimal digits.
-pub fn write(n: u64) -> Digits
-    ensures { result ≡ written_of n }
+pub fn write(n: u64) -> ArrayVec<u8, DIGIT_PLACES>
+    ensures { result.items ≡ digits_of n }
 {
-    if n < 10 {
-        let none = Digits {
-            count: 0,
-            bytes: [0; DIGIT_PLACES],
-        };
-        return followed(none, n);
-    }
-    let tens = write(n / 10);
-    followed(tens, n % 10)
+    let mut digits = if n < 10 {
+        ArrayVec::new()
+    } else {
+        write(n / 10)
+    };
+    digits.push(ZERO + (n % 10) as u8);
+    digits
 }

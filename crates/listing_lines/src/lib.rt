@@ -50,13 +50,12 @@ pub fn with_word(line: Line, word: &[u8]) -> Line
 }
 
 // The line with a number in decimal digits, and the byte after it.
-#[tactic(auto, using(crate::proofs::Number::count_fits))]
 pub fn with_number(line: Line, n: u64, end: u8) -> Line
     requires { line.length + field_bytes ≤ line_bytes }
     ensures { (result ≡ appended line (digits_of n ++ (end ∷ []))) × (result.length ≤ line.length + field_bytes) }
 {
     let digits = decimal::write(n);
-    let longer = with_word(line, &digits.bytes[..digits.count]);
+    let longer = with_word(line, digits.as_slice());
     followed(longer, end)
 }
 

@@ -1,13 +1,20 @@
 -- `decimal::write` meets its contract: the digits of the tenth, then the last.
-use Rattle.std.proofs.Common.{arith}
+use Rattle.std.proofs.Common.{◌∙◌, ap, arith}
 use Rattle.decimal.proofs.Written.{first_written, next_written, place-left}
 use Rattle.decimal.proofs.+write.Goals as goal
+use Rattle.decimal.proofs.+write.Goals.{then-n-lt10, else-n-lt10}
 
-pub returns-then-n-lt10 : goal.returns-then-n-lt10
-returns-then-n-lt10 t c = first_written c.args.n c.if-n-lt10.true c.followed.result c.followed.ensures
-
-pub followed-requires-2 : goal.followed-requires-2
-followed-requires-2 t c = (place-left c.args.n c.ranges.n.fits c.write-tens.result c.write-tens.ensures, omega arith)
+pub push-requires : goal.push-requires
+push-requires t c = (
+  omega arith,
+  elim c.if-n-lt10.branch [
+    | then-n-lt10 w ↦ rw (w.digits-is, w.new-digits.ensures) (omega arith)
+    | else-n-lt10 w ↦ place-left c.args.n c.ranges.n.fits _ (ap (λ d. d.items) w.digits-is ∙ w.write-digits.ensures)
+  ],
+)
 
 pub returns : goal.returns
-returns t c = next_written c.args.n c.if-n-lt10.false c.write-tens.result c.followed-2.result c.write-tens.ensures c.followed-2.ensures
+returns t c = elim c.if-n-lt10.branch [
+  | then-n-lt10 w ↦ first_written c.args.n _ _ c.push.ensures.items w.if-n-lt10.true (ap (λ d. d.items) w.digits-is ∙ w.new-digits.ensures)
+  | else-n-lt10 w ↦ next_written c.args.n _ _ c.push.ensures.items w.if-n-lt10.false (ap (λ d. d.items) w.digits-is ∙ w.write-digits.ensures)
+]
