@@ -1,7 +1,6 @@
 -- What the functions of this crate need of the ends of a face and of a valid record.
 --     layer_in to next_cell       which ends are joined, from the numbers of a site
 --     slot_in to at_top           slots and C in use, by the kinds of the ends
---     End                         an end: its V, S and D by slot and by place
 --     across_rule_lem to fits_from       the face that leads from one end to another; then its water in a step that 7 and 8 allow
 use mathlib.Core.Path.{◌≡◌, refl, sym, ap, ap₂, ◌∙◌}
 use mathlib.Core.Bool.{Bool, true, false, cond, ◌&&◌, ◌||◌, and-false, true≢false}
@@ -27,10 +26,10 @@ use Rattle.laws.specs.Signed.{small_fits}
 use Rattle.laws.specs.Sums.{none_at}
 use Rattle.limits.specs.Limits.{length_limit, total_limit, drawdown_limit}
 use Rattle.network.specs.Network.{Rule, Face, Network, loss_at, drawdown, in_use_by, in_use, water, crossing, flow, stable, table_too_deep}
-use Rattle.network.specs.Grid.{Grid, place, one_per_place, across_rule, down_rule, across_face, down_face, network_of}
+use Rattle.network.specs.Grid.{Grid, place, across_rule, down_rule, across_face, down_face, network_of}
 use Rattle.network.specs.Kept.{OnTable}
 use Rattle.network.proofs.laws.Bounds.{face_fits}
-use Rattle.network.proofs.laws.Places.{place-below, place_well}
+use Rattle.network.proofs.laws.Places.{place_well}
 use Rattle.network.proofs.laws.Proper.{on_table}
 use Rattle.site.specs.declared.Site.{Site}
 use Rattle.site.specs.Columns.{area_at}
@@ -41,15 +40,15 @@ use Rattle.record.specs.declared.Record.{Record}
 use Rattle.record.specs.Record.{slot, across_in, grid_of, state_of}
 use Rattle.coefficient_cells.specs.Worked.{InLimits}
 use Rattle.validity.specs.Laws.{Valid, valid_proper, valid_limits, table_fits}
-use Rattle.step_drawdowns.specs.Drawdowns.{depth_of, depth_at}
 use Rattle.step_flows.specs.Flows.{reduced_c, table_c}
 use Rattle.slot_places.specs.Screen.{fixed_below}
-use Rattle.slot_places.specs.Slots.{slot_at, counted, dry, loss_past, loss_cell, depth-column, depth_well}
+use Rattle.slot_places.specs.Slots.{counted, dry}
 use Rattle.readings.specs.declared.Place.{Place}
 use Rattle.readings.specs.declared.Place.TheVariants.{Well, Cell}
 use Rattle.readings.specs.Readings.{is_layer, is_stored, number_of, leads, face_from}
-use Rattle.readings.specs.Laws.{well_back}
-use Rattle.read_flow.specs.Ends.{in_slots, loss_end, storage_end, conductance_from, rule_from, in_use_from, InLayer, TableFits}
+use Rattle.read_drawdown.specs.Ends.{End}
+use Rattle.read_drawdown.specs.Ends.End.{well, cell}
+use Rattle.read_flow.specs.Ends.{in_slots, conductance_from, rule_from, in_use_from, InLayer, TableFits}
 use Rattle.read_flow.specs.Laws.{Led, screen, across, down, face_listed}
 
 -- ---- which ends are joined, from the numbers of a site
@@ -135,11 +134,6 @@ at_top from e = rw e at from
 
 -- ---- the ends of a face
 
--- what an end may be: the well, or a cell, also of the last column
-pub data End (G : Grid) : Place → Type 0 where
-  well : End G Well
-  cell : (i j : ℕ) → 1 ≤ i → i ≤ G.layers → 1 ≤ j → j ≤ G.columns → End G (Cell i j)
-
 ends : (G : Grid) {a b : Place} → 1 ≤ G.columns → Led G a b → End G a × End G b
 ends G h (screen {k} {l} k₁ k₂ s e) = (well, cell k l k₁ k₂ (omega arith) (omega arith))
 ends G h (across {i} {j} {k} {l} i₁ i₂ j₁ j₂ e f) = (cell i j i₁ i₂ j₁ (omega arith), cell k l (omega arith) (omega arith) (omega arith) (omega arith))
@@ -165,21 +159,6 @@ module _ (r : Record) (v : Valid r) where
   in_slots_lem (cell i j i₁ i₂ j₁ j₂) =
       both_hold (both_hold (both_hold (le-leb 1 i i₁) (le-leb i 20 (omega (arith, counts.layers_most)))) (le-leb 1 j j₁)) (le-leb j 50 (omega (arith, counts.columns_most)))
 
-  depth_end : {e : Place} → End G e → depth_of (loss_end r.losses r.well_loss e) (storage_end r.storages r.well_storage e) ≡ drawdown N vs (number_of G e)
-  unfolding loss_end storage_end number_of depth_at grid_of
-  depth_end well = depth_well r v
-  depth_end (cell i zero i₁ i₂ j₁ j₂) = absurd (omega arith)
-  depth_end (cell i (suc j) i₁ i₂ j₁ j₂) = rw (slot_at (i - 1) j) (depth-column r v (i - 1) j (omega arith) (omega arith))
-
-  loss_end_lem : {e : Place} → End G e → pos 0 ≤ℤ loss_end r.losses r.well_loss e
-  unfolding loss_end loss_at state_of one_per_place grid_of network_of
-  loss_end_lem well = v.kept.losses 0 (valid_proper r v).well
-  loss_end_lem (cell i zero i₁ i₂ j₁ j₂) = absurd (omega arith)
-  loss_end_lem (cell i (suc j) i₁ i₂ j₁ j₂) = rw (slot_at (i - 1) j) (⊎_elim
-      (λ lt. rw (loss_cell r v (i - 1) j (omega arith) lt) at (v.kept.losses (place G (i - 1) (suc j)) (place-below G (i - 1) j (omega arith) lt)))
-      (λ le. rw (loss_past r v (50 * (i - 1) + j) (omega (arith, counts.layers_most, counts.columns_most)) (omega (arith, counts.columns_most))) (pos_≤ℤ zero-le))
-      (below_or_not (suc j) r.site.columns))
-
   -- D past the places
   depth_outside : (p : ℕ) → N.places ≤ p → drawdown N vs p ≡ pos 0
   unfolding drawdown loss_at
@@ -187,10 +166,6 @@ module _ (r : Record) (v : Valid r) where
 
   shallow : (p : ℕ) → drawdown N vs p ≤ℤ pos drawdown_limit
   shallow p = ⊎_elim (v.kept.depths p) (λ h. rw (depth_outside p h) (pos_≤ℤ zero-le)) (below_or_not p N.places)
-
-  -- what `drawdown_at` asks
-  pub end_asks : {e : Place} → End G e → (in_slots e ≡ true) × ((pos 0 ≤ℤ loss_end r.losses r.well_loss e) × (depth_of (loss_end r.losses r.well_loss e) (storage_end r.storages r.well_storage e) ≤ℤ pos drawdown_limit))
-  end_asks {e} h = (in_slots_lem h, (loss_end_lem h, rw (depth_end h) (shallow (number_of G e))))
 
   in_layer : (p : ℕ) → OnTable N p → drawdown N vs p ≤ℤ pos (1000 * N.thickness)
   unfolding table_too_deep
@@ -269,10 +244,6 @@ module _ (r : Record) (v : Valid r) where
   module _ {a b : Place} (l : Led G a b) (dt : ℕ) (short : dt ≤ length_limit) (st : stable N dt ≡ true) where
     abbrev f : Face
     f = face_from G a b
-
-    -- D as `drawdown_at` gives it
-    pub depth_back : {e : Place} → End G e → (n : ℕ) → pos n ≡ depth_of (loss_end r.losses (to_z w64 (of_z w64 r.well_loss)) e) (storage_end r.storages r.well_storage e) → pos n ≡ drawdown N vs (number_of G e)
-    depth_back h n q = (rw (well_back r v) at q) ∙ depth_end h
 
     pub flow_small : nat_abs (flow N vs dt f) ≤ total_limit
     unfolding network_of

@@ -1,5 +1,5 @@
 -- The ends of a face in the arrays of a record: for the inner contracts of this crate.
-use Rattle.std.specs.Prelude.{◌≡◌, Bool, true, cond, ◌&&◌, List, ℕ, ◌*◌, ◌-◌, ◌^◌, ◌≤◌, ◌<◌, eqb, leb, ℤ, pos, get_or}
+use Rattle.std.specs.Prelude.{◌≡◌, Bool, true, cond, ◌&&◌, List, ℕ, ◌*◌, ◌-◌, ◌^◌, ◌≤◌, ◌<◌, eqb, leb, ℤ, get_or}
 use Rattle.network.specs.Network.{Rule, in_use_by}
 use Rattle.site.specs.declared.Site.{Site}
 use Rattle.site.specs.Columns.{area_at}
@@ -12,15 +12,6 @@ use Rattle.readings.specs.declared.Place.TheVariants.{Well, Cell}
 unfoldable pub in_slots : Place → Bool
 in_slots Well = true
 in_slots (Cell i j) = leb 1 i && leb i 20 && leb 1 j && leb j 50
-
--- V and S of an end: the well's, or what stands in the cell's slot
-unfoldable pub loss_end : List ℤ → ℤ → Place → ℤ
-loss_end vs v Well = v
-loss_end vs v (Cell i j) = get_or vs (slot (i - 1) j) (pos 0)
-
-unfoldable pub storage_end : List ℕ → ℕ → Place → ℕ
-storage_end ss s Well = s
-storage_end ss s (Cell i j) = get_or ss (slot (i - 1) j) 0
 
 -- C, unreduced (between layers 1 and 2 at s = 0, N6), of the face that leads from one end to the other: the well's, the one toward the next column or the one toward the layer below
 unfoldable pub conductance_from : List ℕ → List ℕ → List ℕ → Place → Place → ℕ

@@ -1,8 +1,8 @@
 // The water of one face between two ends that a reader names, for a step not taken.
 #![tactic(auto)]
 
-ghost use Rattle.std.specs.Prelude.{◌≡◌, true, ℕ, ◌*◌, ◌-◌, ◌^◌, ◌≤◌, ◌<◌, pos, get_or, ◌≤ℤ◌};
-ghost use Rattle.limits.specs.Limits.{length_limit, drawdown_limit};
+ghost use Rattle.std.specs.Prelude.{◌≡◌, true, ℕ, ◌*◌, ◌-◌, ◌^◌, ◌≤◌, ◌<◌, pos, get_or};
+ghost use Rattle.limits.specs.Limits.{length_limit};
 ghost use Rattle.network.specs.Network.{flow, stable};
 ghost use Rattle.network.specs.Grid.{network_of};
 ghost use Rattle.site.specs.Columns.{area_at};
@@ -10,16 +10,16 @@ ghost use Rattle.record.specs.Record.{grid_of, state_of};
 ghost use Rattle.coefficient_cells.specs.Cells.{down_of};
 ghost use Rattle.coefficient_cells.specs.Worked.{InLimits};
 ghost use Rattle.validity.specs.Validity.{valid};
-ghost use Rattle.step_drawdowns.specs.Drawdowns.{depth_of};
 ghost use Rattle.step_flows.specs.Flows.{table_c};
 ghost use Rattle.readings.specs.Readings.{leads, face_from, flow_of};
-ghost use Rattle.read_flow.specs.Ends.{in_slots, loss_end, storage_end, in_use_from, InLayer, TableFits};
+ghost use Rattle.read_flow.specs.Ends.{in_slots, in_use_from, InLayer, TableFits};
 ghost use Rattle.read_flow.specs.Turned.{opposite};
 
 use coefficient_cells::areas_of;
-use limits::{CELL_PLACES, LAYER_PLACES};
-use readings::{Amount, Place};
+use read_drawdown::drawdown_at;
+use readings::Place;
 use record::Record;
+use refusals::Refusal;
 use site::Site;
 
 // Whether a C rule joins one end to the other, in this order: the well to column 1 of a screened layer, a stored cell to the next column or to
@@ -43,26 +43,6 @@ fn leads(site: Site, from: Place, to: Place) -> bool
     ((k == i) & (l == j + 1)) | ((k == i + 1) & (l == j))
 }
 
-// D of an end, µm. Nothing stands in a slot of the last column, so it is 0 there.
-fn drawdown_at<'a>(
-    losses: &'a [i64; CELL_PLACES],
-    storages: &'a [u64; CELL_PLACES],
-    well_loss: i64,
-    well_storage: u64,
-    end: Place,
-) -> u64
-    requires end_value { in_slots end ≡ true }
-    requires pos_bound { pos 0 ≤ℤ loss_end losses.now well_loss end }
-    requires end_bound { depth_of (loss_end losses.now well_loss end) (storage_end storages.now well_storage end) ≤ℤ pos drawdown_limit }
-    ensures { pos result ≡ depth_of (loss_end losses.now well_loss end) (storage_end storages.now well_storage end) }
-{
-    let Place::Cell(layer, column) = end else {
-        return step_drawdowns::drawdown(well_loss, well_storage);
-    };
-    let k = readings::slot_of(layer, column);
-    step_drawdowns::drawdown(losses[k], storages[k])
-}
-
 // C in use between layers 1 and 2 of column j, from D of its cell in layer 1.
 fn column_at_table(site: Site, j: u64, here: u64) -> u64
     requires { InLimits site × (j < site.columns) × (here ≤ 1000 * get_or site.thickness 0 0) × (down_of site 0 j < 2 ^ 64) }
@@ -81,101 +61,73 @@ fn column_at_table(site: Site, j: u64, here: u64) -> u64
 
 // C in use of the face that leads from one end to the other, from D at them: reduced between two cells of layer 1, by the water table from layer 1 to
 // layer 2. No face leads to the well.
-fn in_use<'a>(
-    site: Site,
-    screen: &'a [u64; LAYER_PLACES],
-    horizontal: &'a [u64; CELL_PLACES],
-    vertical: &'a [u64; CELL_PLACES],
-    from: Place,
-    to: Place,
-    here: u64,
-    next: u64,
-) -> u64
-    requires in_limits { InLimits site × (in_slots from ≡ true) × (in_slots to ≡ true) × InLayer site from here × InLayer site to next }
-    requires table_fits { TableFits site from }
-    ensures { pos result ≡ in_use_from site screen.now horizontal.now vertical.now from to (pos here) (pos next) }
+fn in_use(rec: &Record, from: Place, to: Place, here: u64, next: u64) -> u64
+    requires in_limits { InLimits rec.now.site × (in_slots from ≡ true) × (in_slots to ≡ true) × InLayer rec.now.site from here × InLayer rec.now.site to next }
+    requires table_fits { TableFits rec.now.site from }
+    ensures { pos result ≡ in_use_from rec.now.site rec.now.screen rec.now.horizontal rec.now.vertical from to (pos here) (pos next) }
 {
     let Place::Cell(k, _) = to else {
         return 0;
     };
     let Place::Cell(i, j) = from else {
-        return screen[(k - 1) as usize];
+        return rec.screen[(k - 1) as usize];
     };
     let first = readings::slot_of(i, j);
     if k != i {
         if 1 < i {
-            return vertical[first];
+            return rec.vertical[first];
         }
-        return column_at_table(site, j, here);
+        return column_at_table(rec.site, j, here);
     }
     if i != 1 {
-        return horizontal[first];
+        return rec.horizontal[first];
     }
-    let thickness = site.thickness[0];
-    step_flows::reduced(horizontal[first], here, next, thickness, 2000 * thickness)
+    let thickness = rec.site.thickness[0];
+    step_flows::reduced(
+        rec.horizontal[first],
+        here,
+        next,
+        thickness,
+        2000 * thickness,
+    )
 }
 
 // The water of the face that leads from one end to the other, nl.
-fn ahead(record: Record, from: Place, to: Place, dt: u64) -> i64
-    requires { (valid «record» ≡ true) × (leads (grid_of «record») from to ≡ true) × (dt ≤ length_limit) × (stable (network_of (grid_of «record»)) dt ≡ true) }
-    ensures { result ≡ flow (network_of (grid_of «record»)) (state_of «record»).losses dt (face_from (grid_of «record») from to) }
+fn ahead(rec: &Record, from: Place, to: Place, dt: u64) -> i64
+    requires { (valid rec.now ≡ true) × (leads (grid_of rec.now) from to ≡ true) × (dt ≤ length_limit) × (stable (network_of (grid_of rec.now)) dt ≡ true) }
+    ensures { result ≡ flow (network_of (grid_of rec.now)) (state_of rec.now).losses dt (face_from (grid_of rec.now) from to) }
 {
-    let well_loss = record.well_loss;
-    let well_storage = record.well_storage;
-    let here = drawdown_at(
-        &record.losses,
-        &record.storages,
-        well_loss,
-        well_storage,
-        from,
-    );
-    let next = drawdown_at(
-        &record.losses,
-        &record.storages,
-        well_loss,
-        well_storage,
-        to,
-    );
-    let site = record.site;
-    let c = in_use(
-        site,
-        &record.screen,
-        &record.horizontal,
-        &record.vertical,
-        from,
-        to,
-        here,
-        next,
-    );
+    let here = drawdown_at(rec, from);
+    let next = drawdown_at(rec, to);
+    let c = in_use(rec, from, to, here, next);
     step_flows::crossing(c, here, next, dt)
 }
 
 // The water that would cross from one end to the other in dt µs, nl: that of the face, with the other sign where it leads the other way.
-pub fn face_flow(record: Record, from: Place, to: Place, dt: u64) -> Amount
+pub fn face_flow(record: Record, from: Place, to: Place, dt: u64) -> Result<i64, Refusal>
     ensures { result ≡ flow_of «record» from to dt }
 {
     if !validity::valid(record) {
-        return Amount::Refused(14);
+        return Err(Refusal::Record);
     }
-    let site = record.site;
-    let forth = leads(site, from, to);
-    let back = leads(site, to, from);
+    let forth = leads(record.site, from, to);
+    let back = leads(record.site, to, from);
     let out = step_conditions::length_out(dt);
     if !(forth | back) {
-        return Amount::Refused(12);
+        return Err(Refusal::NoSuch);
     }
     if out {
-        return Amount::Refused(7);
+        return Err(Refusal::RateOrLength);
     }
     if !step_stability::stable(record, dt) {
-        return Amount::Refused(8);
+        return Err(Refusal::Unstable);
     }
     if forth {
-        return Amount::Given(ahead(record, from, to, dt));
+        return Ok(ahead(&record, from, to, dt));
     }
-    let water = ahead(record, to, from, dt);
+    let water = ahead(&record, to, from, dt);
     let turned = -water;
-    Amount::Given(turned)
+    Ok(turned)
 }
 
 // A theorem, with nothing to run: named the other way round, two ends give the same number with the other sign, or the same refusal.

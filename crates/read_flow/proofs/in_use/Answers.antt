@@ -11,11 +11,11 @@ returns-in_default c = rw c.in_default.is (none_to_well _ _ _ _ _ _ c.args.from)
 pub overflow_sub-result : goal.overflow_sub-result
 overflow_sub-result c = (slot_in _ _ (rw c.in-Cell.is at c.requires.in_limits.2)).0
 
-pub offset_bounds-screen-k : goal.offset_bounds-screen-k
-offset_bounds-screen-k c = omega (arith, slot_in _ _ (rw c.in-Cell.is at c.requires.in_limits.2))
+pub offset_bounds-rec-k : goal.offset_bounds-rec-k
+offset_bounds-rec-k c = omega (arith, slot_in _ _ (rw c.in-Cell.is at c.requires.in_limits.2))
 
-pub bounds-screen-k : goal.bounds-screen-k
-bounds-screen-k c = omega (arith, slot_in _ _ (rw c.in-Cell.is at c.requires.in_limits.2))
+pub bounds-rec-k : goal.bounds-rec-k
+bounds-rec-k c = omega (arith, slot_in _ _ (rw c.in-Cell.is at c.requires.in_limits.2))
 
 pub returns-in_default-from : goal.returns-in_default-from
 unfolding in_use_from in_use_by rule_from conductance_from
