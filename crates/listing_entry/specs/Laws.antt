@@ -1,15 +1,16 @@
 -- The figures of a line, from the readings: laws only, nothing to believe.
 --     figures_read     the figures that the readings of a record give are within their limits
-use Rattle.std.specs.Prelude.{◌≡◌, Bool, not, ℤ, pos, nat_abs}
+use Rattle.std.specs.Prelude.{◌≡◌, Bool, not, ℤ, pos, nat_abs, Ok}
 use Rattle.std.proofs.Math.Path.{sym, ap}
 use Rattle.std.proofs.Common.{◌∙◌, arith}
-use Prim.Native.Nat.{ℕ, zero, suc, ◌+◌, ◌≤◌, zero-le}
+use Prim.Native.Nat.{ℕ, ◌+◌, ◌≤◌, zero-le}
 use borrow.Author.Tests.{not-false}
 use Rattle.std.proofs.Math.Dec.{ltb}
 use Rattle.laws.specs.Integer.{natural, pos_≤ℤ, UpTo}
 use Rattle.laws.specs.Refusal.{passed}
 use Rattle.laws.specs.Lists.{ifℕ, ifℤ, sumℕ, range}
 use Rattle.laws.specs.Sums.{ifℕ_le, ifℤ_pos, sumℕ_le, sumℕ_one, sumℤ_ext, sumℤ_pos, range-below, mem_range}
+use Rattle.refusals.specs.Laws.{value_given}
 use Rattle.limits.specs.Limits.{total_limit}
 use Rattle.network.specs.Network.{Network, State, drawdown, loss_in}
 use Rattle.network.specs.Grid.{network_of}
@@ -22,8 +23,7 @@ use Rattle.validity.specs.Validity.{valid}
 use Rattle.validity.specs.Laws.{valid_record, valid_proper}
 use Rattle.readings.specs.declared.Place.{Place}
 use Rattle.readings.specs.declared.Totals.{Totals}
-use Rattle.readings.specs.Readings.{amount_of, balance_of, number_of, drawdown_of, totals_in, budget_of}
-use Rattle.readings.specs.Laws.{given_amount}
+use Rattle.readings.specs.Readings.{number_of, drawdown_of, totals_in, budget_of}
 use Rattle.listing_entry.specs.Figures.{Figures}
 
 -- ---- of a state in its limits
@@ -67,15 +67,11 @@ module _ (N : Network) (proper : Proper N) (s : State) (kept : Kept N s) where
 
 -- ---- of what the readings give
 
-given_balance : (n : ℕ) (x t : Totals) → balance_of n x ≡ balance_of 0 t → x ≡ t
-unfolding balance_of
-given_balance zero x t e = cc
-given_balance (suc n) x t e = let z : ◌≡◌ {A = ℕ} 0 1 = cc in absurd (omega arith)
-
 module _ (r : Record) where
-  pub figures_read : (D : ℤ) (t : Totals) → drawdown_of r Place.Well ≡ amount_of 0 D → budget_of r ≡ balance_of 0 t → Figures D t
+  pub figures_read : (D : ℤ) (t : Totals) → drawdown_of r Place.Well ≡ Ok D → budget_of r ≡ Ok t → Figures D t
   unfolding drawdown_of budget_of number_of
   figures_read D t e q =
-      let given = given_amount _ _ D e in
-      let ok = not-false _ (passed (not (valid r)) 13 _ given.0).0 in
-      rw (sym given.1, sym (given_balance _ _ t q)) (state_figures (network_of (grid_of r)) (valid_proper r (valid_record r ok)) (state_of r) (valid_record r ok).kept r.mark)
+      let depth = value_given _ _ e in
+      let totals = value_given _ _ q in
+      let ok = not-false _ (passed (not (valid r)) 13 _ depth.0).0 in
+      rw (sym depth.1, sym totals.1) (state_figures (network_of (grid_of r)) (valid_proper r (valid_record r ok)) (state_of r) (valid_record r ok).kept r.mark)

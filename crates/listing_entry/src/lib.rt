@@ -1,22 +1,23 @@
 // The line of a pumping entry.
 #![tactic(auto)]
 
-ghost use Rattle.std.specs.Prelude.{◌≡◌, ℤ};
-ghost use Rattle.readings.specs.Readings.{amount_of, balance_of};
+ghost use Rattle.std.specs.Prelude.{◌≡◌, ℕ, MatchResult};
+ghost use Rattle.refusals.specs.Refusals.{refusal_number};
 ghost use Rattle.listing_lines.specs.Lines.{HoldsLine};
-ghost use Rattle.listing_entry.specs.EntryLine.{refused_line, figures_line, readings_line, entry_line};
+ghost use Rattle.listing_entry.specs.EntryLine.{refused_line, figures_line, entry_line};
 ghost use Rattle.listing_entry.specs.Figures.{Figures};
 
 use listing_lines::{Line, empty, with_figure, with_number, with_word};
-use readings::{Amount, Balance, Place, Totals};
-use record::{Answer, Outcome};
+use readings::{Place, Totals};
+use record::Answer;
+use refusals::Refusal;
 
-fn refused_line(number: u64, refusal: u64) -> Line
-    ensures { HoldsLine (refused_line number refusal) result }
+fn refused_line(number: u64, refusal: Refusal) -> Line
+    ensures { HoldsLine (refused_line number (refusal_number refusal)) result }
 {
     let word = with_word(empty(), b"refused ");
     let entry = with_number(word, number, b' ');
-    with_number(entry, refusal, b'\n')
+    with_number(entry, refusal.number(), b'\n')
 }
 
 fn figures_line(number: u64, time: u64, well: i64, totals: Totals) -> Line
@@ -32,30 +33,24 @@ fn figures_line(number: u64, time: u64, well: i64, totals: Totals) -> Line
     with_figure(cell_loss, totals.inflow, b'\n')
 }
 
-// The line from what the readings answer; a refused reading stands in its place.
-fn readings_line(number: u64, time: u64, depth: Amount, balance: Balance) -> Line
-    requires { (D : ℤ) (t : Totals) → depth ≡ amount_of 0 D → balance ≡ balance_of 0 t → Figures D t }
-    ensures { HoldsLine (readings_line number time depth balance) result }
+// The well's drawdown and the water budget of the record that an entry's steps left. The refusal of a step, or else of a reading, stands in their place.
+fn figures(ran: Answer) -> Result<(i64, Totals), Refusal>
+    ensures { MatchResult result
+        (λ x. Figures x.0 x.1 × ((n : ℕ) → entry_line n ran ≡ figures_line n ran.«record».time x.0 x.1))
+        (λ k. (n : ℕ) → entry_line n ran ≡ refused_line n (refusal_number k)) }
 {
-    match depth {
-        Amount::Refused(refusal) => refused_line(number, refusal),
-        Amount::Given(well) => match balance {
-            Balance::Refused(refusal) => refused_line(number, refusal),
-            Balance::Given(totals) => figures_line(number, time, well, totals),
-        },
-    }
+    ran.outcome?;
+    let well = read_drawdown::drawdown(ran.record, Place::Well)?;
+    let totals = read_budget::budget(ran.record)?;
+    Ok((well, totals))
 }
 
-// The line of an entry after its run: its figures, from the readings of the record that its steps left, or its refusal.
+// The line of an entry after its run: its figures, or its refusal.
 pub fn line(number: u64, ran: Answer) -> Line
     ensures { HoldsLine (entry_line number ran) result }
 {
-    let outcome = ran.outcome;
-    if let Outcome::Refused(refusal) = outcome {
-        return refused_line(number, refusal);
+    match figures(ran) {
+        Ok((well, totals)) => figures_line(number, ran.record.time, well, totals),
+        Err(refusal) => refused_line(number, refusal),
     }
-    let record = ran.record;
-    let depth = read_drawdown::drawdown(record, Place::Well);
-    let balance = read_budget::budget(record);
-    readings_line(number, record.time, depth, balance)
 }
