@@ -1,5 +1,5 @@
 -- The listing of a scenario text (document 01, the last paragraph of 'A step'), whole and piece by piece.
-use Rattle.std.specs.Prelude.{Bool, true, false, List, [], ◌∷◌, ◌++◌, map, ℕ, zero, suc, take, Ok, Err}
+use Rattle.std.specs.Prelude.{List, [], ◌∷◌, ◌++◌, map, ℕ, zero, suc, take, Option, Some, None, Ok, Err}
 use Rattle.laws.specs.Lists.{range}
 use Rattle.limits.specs.Limits.{entry_limit}
 use Rattle.refusals.specs.Refusals.{refusal_number}
@@ -15,6 +15,7 @@ use Rattle.listing_lines.specs.Word.{word}
 use Rattle.listing_lines.specs.Lines.{line_from, held}
 use Rattle.listing_runs.specs.Runs.{run_of}
 use Rattle.listing_entry.specs.EntryLine.{entry_line}
+use Rattle.listing.specs.declared.Opened.{Opened}
 use Rattle.listing.specs.declared.Piece.{Piece}
 
 -- ---- the first line
@@ -51,27 +52,27 @@ listing_of text =
 
 -- ---- the listing piece by piece
 
--- a line, the record from which the next entry runs, and whether nothing follows
-unfoldable pub piece : List ℕ → Record → Bool → Piece
-piece l r ended = record { line = held l; «record» = r; ended = ended }
-
--- the first piece, by the answer of start
-unfoldable pub opened : Answer → Piece
+-- the first line, and the record from which the entries run, none where the text is refused; by the answer of start
+unfoldable pub opened : Answer → Opened
 opened a =
     elim a.outcome [
-      | Ok u ↦ piece header_line a.«record» false
-      | Err k ↦ piece (scenario_line (refusal_number k)) a.«record» true
+      | Ok u ↦ record { line = held header_line; start = Some a.«record» }
+      | Err k ↦ record { line = held (scenario_line (refusal_number k)); start = None }
     ]
 
-unfoldable pub opening_of : List ℕ → Piece
+unfoldable pub opening_of : List ℕ → Opened
 opening_of text = opened (start_of text)
 
+-- a line, and the record from which the next entry runs
+unfoldable pub piece : List ℕ → Record → Piece
+piece l r = record { line = held l; «record» = r }
+
 -- the piece after the first `done` entries, which left record r; after the last nothing follows
-unfoldable pub next_of : List ℕ → Record → ℕ → Piece
+unfoldable pub next_of : List ℕ → Record → ℕ → Option Piece
 next_of text r done =
     elim (entry_of text (suc done)) [
-      | Ok e ↦ piece (entry_line (suc done) (entry_run r e)) (entry_run r e).«record» false
-      | Err k ↦ piece [] r true
+      | Ok e ↦ Some (piece (entry_line (suc done) (entry_run r e)) (entry_run r e).«record»)
+      | Err k ↦ None
     ]
 
 -- ---- what a program prints of them
@@ -80,17 +81,28 @@ next_of text r done =
 abbrev pub bytes_of : Line → List ℕ
 bytes_of x = take x.length x.bytes
 
--- the bytes of a piece that follows `done` entries, and of at most n pieces after it, up to one that ends
-unfoldable pub printed_from : ℕ → List ℕ → ℕ → Piece → List ℕ
-printed_from zero text done p = bytes_of p.line
-printed_from (suc n) text done p =
-    bytes_of p.line ++ elim p.ended [ true ↦ [] | false ↦ printed_from n text (suc done) (next_of text p.«record» done) ]
+-- the bytes of at most n pieces after the first `done` entries, which left record r
+unfoldable pub printed_from : ℕ → List ℕ → ℕ → Record → List ℕ
+printed_from zero text done r = []
+printed_from (suc n) text done r =
+    elim (next_of text r done) [
+      | Some p ↦ bytes_of p.line ++ printed_from n text (suc done) p.«record»
+      | None ↦ []
+    ]
 
--- the bytes of the first piece, of one for each entry that a text can have, and of one that ends
+-- the bytes of the first line, and of a piece for each entry that a text can have
 unfoldable pub printed : List ℕ → List ℕ
-printed text = printed_from (suc entry_limit) text 0 (opening_of text)
+printed text =
+    bytes_of (opening_of text).line ++ elim (opening_of text).start [
+      | Some r ↦ printed_from entry_limit text 0 r
+      | None ↦ []
+    ]
 
--- the record that the first k pieces after the opening leave
+-- the record that the first k pieces leave
 unfoldable pub record_after : List ℕ → ℕ → Record
-record_after text zero = (opening_of text).«record»
-record_after text (suc k) = (next_of text (record_after text k) k).«record»
+record_after text zero = (start_of text).«record»
+record_after text (suc k) =
+    elim (next_of text (record_after text k) k) [
+      | Some p ↦ p.«record»
+      | None ↦ record_after text k
+    ]

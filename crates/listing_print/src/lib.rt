@@ -14,9 +14,7 @@ fn print<W: Write>(out: &mut W, line: Line) -> io::Result<()>
     requires { line.length ≤ length line.bytes }
     ensures { OnOk result (Appends (W.contents out.old) (W.contents out.new) (bytes_of line)) }
 {
-    let bytes = line.bytes;
-    let length = line.length;
-    out.write_all(&bytes[..length])
+    out.write_all(&line.bytes[..line.length])
 }
 
 // The header and a line an entry, or the refusal of the text; Ok where all of it could be written, and then it is the text's listing.
@@ -25,20 +23,16 @@ pub fn print_listing<W: Write>(out: &mut W, text: &[u8]) -> io::Result<()>
 {
     let opening = listing::opening(text);
     print(out, opening.line)?;
-    if opening.ended {
+    let Some(start) = opening.start else {
         return Ok(());
-    }
-    let mut record = opening.record;
-    let mut done: u64 = 0;
-    while done < ENTRY_LIMIT {
-        let piece = listing::next_entry(text, record, done);
-        if piece.ended {
+    };
+    let mut record = start;
+    for done in 0..ENTRY_LIMIT {
+        let Some(piece) = listing::next_entry(text, record, done) else {
             return Ok(());
-        }
+        };
         print(out, piece.line)?;
-        let after = piece.record;
-        record = after;
-        done += 1;
+        record = piece.record;
     }
     Ok(())
 }

@@ -11,4 +11,4 @@ unfolding scenario_line line_from word
 returns c =
     let word = c.with_word-word in
     let empty = c.empty in
-    holds _ (held_then _ _ (held_then _ _ empty.ensures.0 word.ensures.0) c.with_number.ensures.0) (omega (arith, c.with_number.ensures.1, word.ensures.1, empty.ensures.1))
+    holds _ (held_then _ _ (held_then _ _ empty.ensures.0 word.ensures.0) (rw c.number.ensures at c.with_number.ensures.0)) (omega (arith, c.with_number.ensures.1, word.ensures.1, empty.ensures.1))
