@@ -1,5 +1,5 @@
 // The changes, by group and number. Each is one number that document 01 limits, at its last allowed and its first forbidden value, or a few
-// numbers that go together; in the group `waters` one that is allowed, by one. `before` is what stood there.
+// numbers that go together; in the group `waters` one that is allowed, by one.
 // Where a change of R_0, R_1, b_2 or Kv_2 would else be refused for the C between layers 1 and 2 (document 02, N6), it has the C with it that
 // bore K then keeps, 2×A_1×Kv_2/b_2, rounded down; that of R_0 to 5001 has the largest grid's.
 // Changed losses have a mark with them (document 02, N1) that is no less than the drawdowns that bore K then has, so that a change is refused
@@ -7,36 +7,34 @@
 use record::Record;
 use site::Site;
 
-const LARGEST: u64 = 18446744073709551615;
-
 // Counts of layers, columns and coefficients.
-pub fn counts(before: Site, case: u64) -> Site {
-    let mut site = before;
+pub fn counts(mut rec: Record, case: u64) -> Record {
+    let site = &mut rec.site;
     match case {
         1 => site.layers = 1,
         2 => site.layers = 2,
         3 => site.layers = 3,
         4 => site.layers = 20,
         5 => site.layers = 21,
-        6 => site.layers = LARGEST,
+        6 => site.layers = u64::MAX,
         7 => site.columns = 1,
         8 => site.columns = 2,
         9 => site.columns = 3,
         10 => site.columns = 50,
         11 => site.columns = 51,
-        12 => site.columns = LARGEST,
+        12 => site.columns = u64::MAX,
         13 => site.loss_count = 1,
         14 => site.loss_count = 2,
         15 => site.loss_count = 3,
-        16 => site.loss_count = LARGEST,
+        16 => site.loss_count = u64::MAX,
         _ => {}
     }
-    site
+    rec
 }
 
 // Limits of the layers' numbers.
-pub fn layers(before: Site, case: u64) -> Site {
-    let mut site = before;
+pub fn layers(mut rec: Record, case: u64) -> Record {
+    let site = &mut rec.site;
     match case {
         1 => site.thickness[0] = 1000000,
         2 => site.thickness[0] = 1000001,
@@ -61,12 +59,7 @@ pub fn layers(before: Site, case: u64) -> Site {
         21 => site.storage[1] = 1000001,
         _ => {}
     }
-    site
-}
-
-// The C between layers 1 and 2 that goes with those changes.
-pub fn layers_below(before: Record, case: u64) -> Record {
-    let mut rec = before;
+    // the C between layers 1 and 2 that goes with those changes
     match case {
         4 => rec.vertical[0] = 15079640000,
         5 => rec.vertical[0] = 15079,
@@ -80,16 +73,14 @@ pub fn layers_below(before: Record, case: u64) -> Record {
 }
 
 // R_1 and R_2.
-fn with_radii(before: Site, first: u64, second: u64) -> Site {
-    let mut site = before;
+fn set_radii(site: &mut Site, first: u64, second: u64) {
     site.radii[0] = first;
     site.radii[1] = second;
-    site
 }
 
 // Limits of the radii and of the well's numbers; rules 4 and 5.
-pub fn numbers(before: Site, case: u64) -> Site {
-    let mut site = before;
+pub fn numbers(mut rec: Record, case: u64) -> Record {
+    let site = &mut rec.site;
     match case {
         1 => site.radii[49] = 2000000,
         2 => site.radii[49] = 2000001,
@@ -107,8 +98,8 @@ pub fn numbers(before: Site, case: u64) -> Site {
         // u_1 against u_0 from below and from above, and u_2 against u_1
         14 => site.well_radius = 29,
         15 => site.well_radius = 30,
-        16 => site = with_radii(before, 1700, 2600),
-        17 => site = with_radii(before, 1701, 2600),
+        16 => set_radii(site, 1700, 2600),
+        17 => set_radii(site, 1701, 2600),
         18 => site.radii[1] = 500,
         19 => site.radii[1] = 501,
         20 => site.radii[1] = 4900,
@@ -117,16 +108,11 @@ pub fn numbers(before: Site, case: u64) -> Site {
         23 => site.intake = 10000,
         24 => site.screened[0] = 1,
         25 => site.screened[1] = 0,
-        26 => site = with_radii(before, 499, 4900),
-        27 => site = with_radii(before, 500, 1301),
+        26 => set_radii(site, 499, 4900),
+        27 => set_radii(site, 500, 1301),
         _ => {}
     }
-    site
-}
-
-// The C between layers 1 and 2 that goes with those changes.
-pub fn numbers_below(before: Record, case: u64) -> Record {
-    let mut rec = before;
+    // the C between layers 1 and 2 that goes with those changes
     match case {
         // the largest grid's, since no other text has so wide a well
         6 => rec.vertical[0] = 4251,
@@ -142,8 +128,8 @@ pub fn numbers_below(before: Record, case: u64) -> Record {
 }
 
 // Slots of the scenario's numbers that no layer, column or coefficient uses.
-pub fn unused(before: Site, case: u64) -> Site {
-    let mut site = before;
+pub fn unused(mut rec: Record, case: u64) -> Record {
+    let site = &mut rec.site;
     match case {
         1 => site.thickness[2] = 1,
         2 => site.thickness[19] = 1,
@@ -161,21 +147,21 @@ pub fn unused(before: Site, case: u64) -> Site {
         14 => site.loss_coefficients[1] = 1,
         _ => {}
     }
-    site
+    rec
 }
 
 // Numbers that the C between layers 1 and 2 is worked from, changed without it: b_2, Kv_2, radii (R_49 is the largest grid's) and Kv_1 to
 // 0. Then numbers that have no part in it: Kv_1 above 0, within its limit and over it, b_1, and the last radius.
-pub fn alone(before: Site, case: u64) -> Site {
-    let mut site = before;
+pub fn alone(mut rec: Record, case: u64) -> Record {
+    let site = &mut rec.site;
     match case {
         1 => site.thickness[1] = 1,
         2 => site.thickness[1] = 1000000,
         3 => site.kv[1] = 0,
         4 => site.kv[1] = 100000000,
         5 => site.well_radius = 30,
-        6 => site = with_radii(before, 1700, 2600),
-        7 => site = with_radii(before, 499, 1300),
+        6 => set_radii(site, 1700, 2600),
+        7 => set_radii(site, 499, 1300),
         8 => site.radii[48] = 1774145,
         9 => site.kv[0] = 0,
         10 => site.kv[0] = 1,
@@ -185,7 +171,7 @@ pub fn alone(before: Site, case: u64) -> Site {
         14 => site.radii[49] = 1999999,
         _ => {}
     }
-    site
+    rec
 }
 
 // The well's free water area with the S that goes with it, that S alone; no screened layer and so no C at the well; a second coefficient.
@@ -205,48 +191,40 @@ pub fn well(before: Record, case: u64) -> Record {
     }
 }
 
-fn with_area(before: Record, area: u64, storage: u64) -> Record {
-    let mut rec = before;
+fn with_area(mut rec: Record, area: u64, storage: u64) -> Record {
     rec.site.water_area = area;
     rec.well_storage = storage;
     rec
 }
 
-fn without_screen(before: Record) -> Record {
-    let mut site = before.site;
-    site.screened[1] = 0;
-    let mut rec = before;
-    rec.site = site;
+fn without_screen(mut rec: Record) -> Record {
+    rec.site.screened[1] = 0;
     rec.screen[1] = 0;
     rec
 }
 
-fn with_coefficient(before: Record, coefficient: u64) -> Record {
-    let mut site = before.site;
-    site.loss_count = 2;
-    site.loss_coefficients[1] = coefficient;
-    let mut rec = before;
-    rec.site = site;
+fn with_coefficient(mut rec: Record, coefficient: u64) -> Record {
+    rec.site.loss_count = 2;
+    rec.site.loss_coefficients[1] = coefficient;
     rec
 }
 
 // C in its limits, below layer 2 also where there is no layer 3; then in slots of layers without screen, of the last column, of no layer,
 // and below the deepest one.
-pub fn conductances(before: Record, case: u64) -> Record {
-    let mut rec = before;
+pub fn conductances(mut rec: Record, case: u64) -> Record {
     match case {
         1 => rec.screen[1] = 0,
         2 => rec.screen[1] = 1000000000000000,
         3 => rec.screen[1] = 1000000000000001,
-        4 => rec.screen[1] = LARGEST,
+        4 => rec.screen[1] = u64::MAX,
         5 => rec.horizontal[0] = 0,
         6 => rec.horizontal[0] = 1000000000000000,
         7 => rec.horizontal[0] = 1000000000000001,
-        8 => rec.horizontal[50] = LARGEST,
+        8 => rec.horizontal[50] = u64::MAX,
         9 => rec.vertical[50] = 0,
         10 => rec.vertical[50] = 1000000000000000,
         11 => rec.vertical[50] = 1000000000000001,
-        12 => rec.vertical[50] = LARGEST,
+        12 => rec.vertical[50] = u64::MAX,
         13 => rec.screen[0] = 1,
         14 => rec.screen[2] = 1,
         15 => rec.screen[19] = 1,
@@ -263,8 +241,7 @@ pub fn conductances(before: Record, case: u64) -> Record {
 }
 
 // S in its limits, then in slots of the last column and of no layer.
-pub fn storages(before: Record, case: u64) -> Record {
-    let mut rec = before;
+pub fn storages(mut rec: Record, case: u64) -> Record {
     match case {
         1 => rec.storages[0] = 0,
         2 => rec.storages[0] = 1,
@@ -320,18 +297,9 @@ pub fn sums(before: Record, case: u64) -> Record {
         10 => with_state(before, 1, -1, 0, 0, 0, 0, 0),
         11 => with_state(before, 1, 0, -1, 0, 0, 0, 0),
         12 => with_state(before, 1, 0, 0, -1, 0, 0, 0),
-        13 => with_state(before, 0, 0, 0, -9223372036854775808, 0, 0, 0),
+        13 => with_state(before, 0, 0, 0, i64::MIN, 0, 0, 0),
         // these add up to 2^64
-        14 => with_state(
-            before,
-            9223372036854775807,
-            2,
-            0,
-            9223372036854775807,
-            0,
-            0,
-            307445734561825,
-        ),
+        14 => with_state(before, i64::MAX, 2, 0, i64::MAX, 0, 0, 307445734561825),
         15 => with_loss(before, 1, 1, 0, 1, 0),
         16 => with_loss(before, 1, -1, 1, 0, 0),
         17 => with_loss(before, 100, 1, 0, 1, 0),
@@ -386,8 +354,7 @@ fn with_cell_losses(before: Record, upper: i64, lower: i64, pumped: u64, mark: i
     with_state(before, 0, upper, lower, 0, pumped, 0, mark)
 }
 
-fn with_storages(before: Record, upper: u64, lower: u64) -> Record {
-    let mut rec = before;
+fn with_storages(mut rec: Record, upper: u64, lower: u64) -> Record {
     rec.storages[0] = upper;
     rec.storages[50] = lower;
     rec
@@ -407,13 +374,7 @@ pub fn depths(before: Record, case: u64) -> Record {
         4 => with_cell_losses(thin, 10000001, 0, 10000001, 10000001),
         5 => with_cell_losses(thin, 0, 1000000000, 1000000000, 1000000000),
         6 => with_cell_losses(thin, 0, 1000000001, 1000000001, 1000000001),
-        7 => with_cell_losses(
-            empty,
-            0,
-            4000000000000000000,
-            4000000000000000000,
-            9223372036854775807,
-        ),
+        7 => with_cell_losses(empty, 0, 4000000000000000000, 4000000000000000000, i64::MAX),
         8 => with_cell_losses(empty, 0, 288230376151711744, 288230376151711744, 0),
         9 => with_cell_losses(thin, 9999000, 0, 9999000, 9999000),
         10 => with_cell_losses(thin, 9999001, 0, 9999001, 9999001),
@@ -427,8 +388,7 @@ pub fn depths(before: Record, case: u64) -> Record {
 
 // The slot of the C between layers 1 and 2 at its value for bore K and beside it, at document 01's value, at the C in use while layer 1 is
 // full, and at the limits of C; then that of the largest grid's last stored column, at its value and beside it.
-pub fn below(before: Record, case: u64) -> Record {
-    let mut rec = before;
+pub fn below(mut rec: Record, case: u64) -> Record {
     match case {
         1 => rec.vertical[0] = 7539820,
         2 => rec.vertical[0] = 7539819,
@@ -438,7 +398,7 @@ pub fn below(before: Record, case: u64) -> Record {
         6 => rec.vertical[0] = 0,
         7 => rec.vertical[0] = 1000000000000000,
         8 => rec.vertical[0] = 1000000000000001,
-        9 => rec.vertical[0] = LARGEST,
+        9 => rec.vertical[0] = u64::MAX,
         10 => rec.vertical[48] = 421452524,
         11 => rec.vertical[48] = 421452523,
         12 => rec.vertical[48] = 421452525,
@@ -448,12 +408,9 @@ pub fn below(before: Record, case: u64) -> Record {
 }
 
 // Kv_1 and Kv_2 with the C between layers 1 and 2 that goes with them.
-fn with_verticals(before: Record, upper: u64, lower: u64, c: u64) -> Record {
-    let mut site = before.site;
-    site.kv[0] = upper;
-    site.kv[1] = lower;
-    let mut rec = before;
-    rec.site = site;
+fn with_verticals(mut rec: Record, upper: u64, lower: u64, c: u64) -> Record {
+    rec.site.kv[0] = upper;
+    rec.site.kv[1] = lower;
     rec.vertical[0] = c;
     rec
 }
@@ -485,8 +442,7 @@ pub fn tables(before: Record, case: u64) -> Record {
     }
 }
 
-fn with_mark(before: Record, mark: i64) -> Record {
-    let mut rec = before;
+fn with_mark(mut rec: Record, mark: i64) -> Record {
     rec.mark = mark;
     rec
 }
@@ -509,8 +465,8 @@ pub fn marks(before: Record, case: u64) -> Record {
         12 => with_mark(before, 1000000001),
         13 => with_mark(before, 0),
         14 => with_mark(before, -1),
-        15 => with_mark(before, -9223372036854775808),
-        16 => with_mark(before, 9223372036854775807),
+        15 => with_mark(before, i64::MIN),
+        16 => with_mark(before, i64::MAX),
         _ => marks_of_losses(before, case),
     }
 }
@@ -539,11 +495,9 @@ fn marks_of_losses(before: Record, case: u64) -> Record {
     }
 }
 
-fn with_screen_loss(before: Site, count: u64, first: u64) -> Site {
-    let mut site = before;
+fn set_screen_loss(site: &mut Site, count: u64, first: u64) {
     site.loss_count = count;
     site.loss_coefficients[0] = first;
-    site
 }
 
 // For same (document 02, N10): bore K as its first entry leaves it; 1 nl from one place to another, or between a place and the last column; 1 nl
@@ -569,8 +523,7 @@ pub fn waters(before: Record, case: u64) -> Record {
 }
 
 // One C or S of bore K, by one.
-fn other_coefficient(before: Record, case: u64) -> Record {
-    let mut rec = before;
+fn other_coefficient(mut rec: Record, case: u64) -> Record {
     match case {
         12 => rec.screen[1] = 1143840362,
         13 => rec.horizontal[0] = 5719201804,
@@ -584,13 +537,13 @@ fn other_coefficient(before: Record, case: u64) -> Record {
 
 // One number of bore K's scenario, by one, of those that have no part in the C between layers 1 and 2: friction; one coefficient more, which is 0,
 // that coefficient 1, and a second one, which is 0; intake, b_1, Kh_2, Kv_1, yield and storage, and the last radius.
-fn other_site(before: Site, case: u64) -> Site {
-    let mut site = before;
+fn other_number(mut rec: Record, case: u64) -> Record {
+    let site = &mut rec.site;
     match case {
         17 => site.friction = 50001,
-        18 => site = with_screen_loss(before, 1, 0),
-        19 => site = with_screen_loss(before, 1, 1),
-        20 => site = with_screen_loss(before, 2, 1),
+        18 => set_screen_loss(site, 1, 0),
+        19 => set_screen_loss(site, 1, 1),
+        20 => set_screen_loss(site, 2, 1),
         21 => site.intake = 9998,
         22 => site.thickness[0] = 10001,
         23 => site.kh[1] = 100001,
@@ -600,13 +553,5 @@ fn other_site(before: Site, case: u64) -> Site {
         27 => site.radii[1] = 1301,
         _ => {}
     }
-    site
-}
-
-fn other_number(before: Record, case: u64) -> Record {
-    let site = before.site;
-    let other = other_site(site, case);
-    let mut rec = before;
-    rec.site = other;
     rec
 }

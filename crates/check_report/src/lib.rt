@@ -2,71 +2,67 @@
 // promise nothing: it is held to the model's.
 #![tactic(auto)]
 
-ghost use Rattle.std.specs.Prelude.{◌≡◌, ◌≤◌, ◌<◌, length};
+ghost use Rattle.std.specs.Prelude.{◌≤◌, ◌<◌};
 
-use check_print::{print, print_integer, print_line_end, print_number, print_refusal, size};
-use limits::{LENGTH_LIMIT, RATE_LIMIT};
-use read_head_loss::Loss;
+use check_hash::checksum_of;
+use check_print::{print_refusal, size};
+use limits::{COLUMN_PLACES, DRAWDOWN_LIMIT, LAYER_PLACES, LENGTH_LIMIT, RATE_LIMIT};
+use read_budget::storage_loss;
+use read_drawdown::drawdown;
+use read_flow::face_flow;
 use read_limiting::Limiting;
-use readings::{Amount, Balance, Count, Place, Sameness};
+use readings::Place;
 use record::Record;
+use refusals::Refusal;
+use std::fmt::Display;
 use std::io::{self, Write};
 
-fn print_amount(out: &mut impl Write, amount: Amount) -> io::Result<()> {
-    match amount {
-        Amount::Given(value) => print_integer(out, value),
-        Amount::Refused(number) => print_refusal(out, number),
+// What a reading answers.
+fn print_answer<T: Display + Drop>(
+    out: &mut impl Write,
+    answer: Result<T, Refusal>,
+) -> io::Result<()> {
+    match answer {
+        Ok(value) => write!(out, " {value}"),
+        Err(refusal) => print_refusal(out, refusal),
     }
+}
+
+// The same, to the end of the line.
+fn print_last<T: Display + Drop>(
+    out: &mut impl Write,
+    answer: Result<T, Refusal>,
+) -> io::Result<()> {
+    print_answer(out, answer)?;
+    writeln!(out)
 }
 
 // ---- budget
 
-fn print_budget(out: &mut impl Write, rec: Record) -> io::Result<()> {
-    print(out, b"budget")?;
-    let balance = read_budget::budget(rec);
-    match balance {
-        Balance::Refused(number) => print_refusal(out, number)?,
-        Balance::Given(totals) => {
-            print_number(out, totals.pumped)?;
-            print_integer(out, totals.well_loss)?;
-            print_integer(out, totals.cell_loss)?;
-            print_integer(out, totals.inflow)?;
-            print_integer(out, totals.mark)?;
-        }
+fn print_budget(out: &mut impl Write, rec: &Record) -> io::Result<()> {
+    write!(out, "budget")?;
+    match read_budget::budget(*rec) {
+        Ok(totals) => write!(
+            out,
+            " {} {} {} {} {}",
+            totals.pumped, totals.well_loss, totals.cell_loss, totals.inflow, totals.mark
+        )?,
+        Err(refusal) => print_refusal(out, refusal)?,
     }
-    print_line_end(out)
+    writeln!(out)
 }
 
 // ---- drawdowns
 
-fn print_row_depths(out: &mut impl Write, rec: Record, layer: u64) -> io::Result<()> {
-    let columns = rec.site.columns;
-    let mut j: u64 = 1;
-    while j < 50 {
-        if columns <= j {
-            return Ok(());
+fn print_depths(out: &mut impl Write, rec: &Record) -> io::Result<()> {
+    write!(out, "well")?;
+    print_last(out, drawdown(*rec, Place::Well))?;
+    for i in 1..=rec.site.layers.min(LAYER_PLACES as u64) {
+        write!(out, "layer {i}")?;
+        for j in 1..rec.site.columns.min(COLUMN_PLACES as u64) {
+            print_answer(out, drawdown(*rec, Place::Cell(i, j)))?;
         }
-        print_amount(out, read_drawdown::drawdown(rec, Place::Cell(layer, j)))?;
-        j += 1;
-    }
-    Ok(())
-}
-
-fn print_depths(out: &mut impl Write, rec: Record) -> io::Result<()> {
-    print(out, b"well")?;
-    print_amount(out, read_drawdown::drawdown(rec, Place::Well))?;
-    print_line_end(out)?;
-    let layers = rec.site.layers;
-    let mut i: u64 = 1;
-    while i <= 20 {
-        if layers < i {
-            return Ok(());
-        }
-        print(out, b"layer")?;
-        print_number(out, i)?;
-        print_row_depths(out, rec, i)?;
-        print_line_end(out)?;
-        i += 1;
+        writeln!(out)?;
     }
     Ok(())
 }
@@ -74,90 +70,55 @@ fn print_depths(out: &mut impl Write, rec: Record) -> io::Result<()> {
 // ---- storage losses
 
 // How many places a record has; 0 where its counts are out of their limits.
-fn place_count(rec: Record) -> usize
+fn place_count(rec: &Record) -> usize
     ensures { result ≤ 981 }
 {
-    let layers = rec.site.layers;
-    let columns = rec.site.columns;
-    if 20 < layers {
-        return 0;
+    match (rec.site.layers, rec.site.columns) {
+        (n @ 0..=20, m @ 1..=50) => (1 + n * (m - 1)) as usize,
+        _ => 0,
     }
-    if columns == 0 {
-        return 0;
-    }
-    if 50 < columns {
-        return 0;
-    }
-    1 + layers as usize * (columns as usize - 1)
 }
 
 // Byte k of the sets that are read: 0 empty, 1 all, 2 the well, 3 the cells, 4 and 5 mixed ones.
 fn set_byte(set: u64, k: usize) -> u8
     requires { k < 1001 }
 {
-    match set {
-        0 => 0,
-        1 => 1,
-        2 => {
-            if k == 0 {
-                return 255;
-            }
-            0
-        }
-        3 => {
-            if k == 0 {
-                return 0;
-            }
-            128
-        }
-        4 => (k % 3) as u8,
+    match (set, k) {
+        (0, _) => 0,
+        (1, _) => 1,
+        (2, 0) => 255,
+        (2, _) => 0,
+        (3, 0) => 0,
+        (3, _) => 128,
+        (4, _) => (k % 3) as u8,
         _ => ((k * k + k / 7) % 5) as u8,
     }
 }
 
-fn set_bytes(set: u64) -> [u8; 1001]
-    ensures { 1001 ≡ length result }
+// The storage loss of the first n bytes of a set.
+fn print_loss(out: &mut impl Write, rec: &Record, set: u64, n: usize) -> io::Result<()>
+    requires { n ≤ 1001 }
 {
     let mut bytes = [0u8; 1001];
-    let mut k: usize = 0;
-    while k < 1001 {
-        bytes[k] = set_byte(set, k);
-        k += 1;
+    for (k, byte) in bytes.iter_mut().enumerate() {
+        *byte = set_byte(set, k);
     }
-    bytes
+    print_last(out, storage_loss(*rec, &bytes[..n]))
 }
 
-// The storage loss of the first n bytes of a set.
-fn print_loss(out: &mut impl Write, rec: Record, set: u64, n: usize) -> io::Result<()>
+fn print_set_length(out: &mut impl Write, rec: &Record, n: usize) -> io::Result<()>
     requires { n ≤ 1001 }
 {
-    let bytes = set_bytes(set);
-    print_amount(out, read_budget::storage_loss(rec, &bytes[..n]))?;
-    print_line_end(out)
-}
-
-fn print_set(out: &mut impl Write, rec: Record, set: u64) -> io::Result<()> {
-    print(out, b"set")?;
-    print_number(out, set)?;
-    print_loss(out, rec, set, place_count(rec))
-}
-
-fn print_set_length(out: &mut impl Write, rec: Record, n: usize) -> io::Result<()>
-    requires { n ≤ 1001 }
-{
-    print(out, b"set length")?;
-    print_number(out, n as u64)?;
+    write!(out, "set length {n}")?;
     print_loss(out, rec, 1, n)
 }
 
-fn print_sets(out: &mut impl Write, rec: Record) -> io::Result<()> {
-    print_set(out, rec, 0)?;
-    print_set(out, rec, 1)?;
-    print_set(out, rec, 2)?;
-    print_set(out, rec, 3)?;
-    print_set(out, rec, 4)?;
-    print_set(out, rec, 5)?;
+fn print_sets(out: &mut impl Write, rec: &Record) -> io::Result<()> {
     let n = place_count(rec);
+    for set in 0..6 {
+        write!(out, "set {set}")?;
+        print_loss(out, rec, set, n)?;
+    }
     if n == 0 {
         return Ok(());
     }
@@ -168,386 +129,218 @@ fn print_sets(out: &mut impl Write, rec: Record) -> io::Result<()> {
 
 // ---- deep cells
 
-fn greater(a: u64, b: u64) -> u64 {
-    if a < b {
-        return b;
-    }
-    a
-}
-
-fn depth_at(rec: Record, layer: u64, column: u64) -> u64 {
-    let amount = read_drawdown::drawdown(rec, Place::Cell(layer, column));
-    match amount {
-        Amount::Refused(_) => 0,
-        Amount::Given(depth) => size(depth),
-    }
+fn depth_at(rec: &Record, layer: u64, column: u64) -> u64 {
+    drawdown(*rec, Place::Cell(layer, column)).map_or(0, |depth| size(depth))
 }
 
 // The greatest drawdown of a cell.
-fn deepest(rec: Record) -> u64 {
-    let mut most: u64 = 0;
-    let mut k: u64 = 0;
-    while k < 1000 {
-        most = greater(most, depth_at(rec, k / 50 + 1, k % 50 + 1));
-        k += 1;
-    }
-    most
+fn deepest(rec: &Record) -> u64 {
+    (0..1000)
+        .map(|k| depth_at(rec, k / 50 + 1, k % 50 + 1))
+        .max()
+        .unwrap_or(0)
 }
 
-// What a lent list holds before a reading: 9 in each slot, which is no code.
-fn blank() -> [u64; 1001]
-    ensures { 1001 ≡ length result }
-{
-    [9; 1001]
-}
-
-// The answer, and what a lent list of n slots holds after it.
-#[derive(Clone, Copy)]
-struct Listed {
-    answer: Count,
-    list: [u64; 1001],
-}
-
-fn list_deep(rec: Record, depth: u64, n: usize) -> Listed
+// What a lent list of n slots gives, and what it holds after that. Before it each slot holds 9, which is no code.
+fn list_deep(rec: &Record, depth: u64, n: usize) -> (Result<u64, Refusal>, [u64; 1001])
     requires { n ≤ 1001 }
 {
-    let mut list = blank();
-    let answer = read_deep_cells::deep_cells(rec, depth, &mut list[..n]);
-    Listed { answer, list }
+    let mut list = [9; 1001];
+    let answer = read_deep_cells::deep_cells(*rec, depth, &mut list[..n]);
+    (answer, list)
 }
 
-// 1 where slot k is one of the first n and is as it was, else 0.
-fn slot_left(list: &[u64; 1001], n: usize, k: usize) -> u64
-    requires { k < 1001 }
-    ensures { result ≤ 1 }
-{
-    if n <= k {
-        return 0;
-    }
-    if list[k] == 9 {
-        return 1;
-    }
-    0
-}
-
-// How many of the first n slots are as they were.
-fn slots_left(list: &[u64; 1001], n: usize) -> u64 {
-    let mut left: u64 = 0;
-    let mut k: usize = 0;
-    while k < 1001 {
-        left += slot_left(list, n, k);
-        k += 1;
-    }
-    left
-}
-
-// The first n slots of a list, in their order.
-fn print_codes(out: &mut impl Write, list: &[u64; 1001], n: u64) -> io::Result<()> {
-    let mut k: usize = 0;
-    while k < 1001 {
-        if (k as u64) < n {
-            print_number(out, list[k])?;
-        }
-        k += 1;
-    }
-    Ok(())
-}
-
-fn print_count(out: &mut impl Write, answer: Count) -> io::Result<()> {
-    match answer {
-        Count::Refused(number) => print_refusal(out, number),
-        Count::Given(count) => print_number(out, count),
-    }
-}
-
-fn count_in(answer: Count) -> u64 {
-    match answer {
-        Count::Refused(_) => 0,
-        Count::Given(count) => count,
-    }
-}
-
-// The answer with a list of n slots, how many of them are as they were, and those that are written.
+// The answer with a list of n slots, how many of them are as they were, and those that are written. Gives how many cells there are, 0 for a refusal.
 fn print_listed(
     out: &mut impl Write,
-    word: &[u8],
-    rec: Record,
+    word: &str,
+    rec: &Record,
     depth: u64,
     n: usize,
-) -> io::Result<u64>
+) -> io::Result<usize>
     requires { n ≤ 1001 }
 {
-    let deep = list_deep(rec, depth, n);
-    let answer = deep.answer;
-    let count = count_in(answer);
-    print(out, word)?;
-    print_number(out, depth)?;
-    print_count(out, answer)?;
-    let list = deep.list;
-    print_number(out, slots_left(&list, n))?;
-    print_codes(out, &list, count)?;
-    print_line_end(out)?;
+    let (answer, list) = list_deep(rec, depth, n);
+    write!(out, "{word} {depth}")?;
+    print_answer(out, answer)?;
+    let left = list[..n].iter().filter(|code| **code == 9).count();
+    write!(out, " {left}")?;
+    let count = answer.unwrap_or(0) as usize;
+    for code in list.iter().take(count) {
+        write!(out, " {code}")?;
+    }
+    writeln!(out)?;
     Ok(count)
 }
 
 // What a list with a slot for each place gives, one exactly long enough, and one a slot too short.
-fn print_deep(out: &mut impl Write, rec: Record, depth: u64) -> io::Result<()> {
-    let count = print_listed(out, b"deep", rec, depth, place_count(rec))?;
-    if count == 0 {
-        return Ok(());
+fn print_deep(out: &mut impl Write, rec: &Record, depth: u64) -> io::Result<()> {
+    let count = print_listed(out, "deep", rec, depth, place_count(rec))?;
+    if 1 <= count && count <= 1001 {
+        print_listed(out, "deep exact", rec, depth, count)?;
+        print_listed(out, "deep short", rec, depth, count - 1)?;
     }
-    if 1001 < count {
-        return Ok(());
-    }
-    print_listed(out, b"deep exact", rec, depth, count as usize)?;
-    print_listed(out, b"deep short", rec, depth, count as usize - 1)?;
     Ok(())
 }
 
 // D of the cell in the middle of the list of all that are drawn down; 0 where there is none.
-fn middle(rec: Record) -> u64 {
-    let deep = list_deep(rec, 0, place_count(rec));
-    let answer = deep.answer;
-    let count = count_in(answer);
-    if count == 0 {
-        return 0;
+fn middle(rec: &Record) -> u64 {
+    let (answer, list) = list_deep(rec, 0, place_count(rec));
+    match answer {
+        Ok(count @ 1..=1001) => {
+            let code = list[count as usize / 2];
+            depth_at(rec, code / 100, code % 100)
+        }
+        _ => 0,
     }
-    if 1001 < count {
-        return 0;
-    }
-    let list = deep.list;
-    let code = list[count as usize / 2];
-    depth_at(rec, code / 100, code % 100)
 }
 
-fn less_one(depth: u64) -> u64 {
-    if depth == 0 {
-        return 0;
-    }
-    depth - 1
-}
-
-fn print_deep_cells(out: &mut impl Write, rec: Record) -> io::Result<()> {
+fn print_deep_cells(out: &mut impl Write, rec: &Record) -> io::Result<()> {
     let most = deepest(rec);
     let half = middle(rec);
-    print_deep(out, rec, 0)?;
-    print_deep(out, rec, most / 4)?;
-    print_deep(out, rec, most / 2)?;
-    print_deep(out, rec, less_one(half))?;
-    print_deep(out, rec, half)?;
-    print_deep(out, rec, less_one(most))?;
-    print_deep(out, rec, most)?;
-    print_deep(out, rec, 1000000000)?;
-    print_deep(out, rec, 18446744073709551615)
+    for depth in [
+        0,
+        most / 4,
+        most / 2,
+        half.saturating_sub(1),
+        half,
+        most.saturating_sub(1),
+        most,
+        DRAWDOWN_LIMIT,
+        u64::MAX,
+    ] {
+        print_deep(out, rec, depth)?;
+    }
+    Ok(())
 }
 
 // ---- sameness
 
-fn print_sameness(out: &mut impl Write, sameness: Sameness) -> io::Result<()> {
-    match sameness {
-        Sameness::Refused(number) => print_refusal(out, number),
-        Sameness::Given(same) => print_number(out, if same { 1 } else { 0 }),
-    }
-}
-
 // What same answers of two records, and the other way round.
-pub fn print_both_ways(out: &mut impl Write, one: Record, other: Record) -> io::Result<()> {
-    print_sameness(out, read_same::same(one, other))?;
-    print_sameness(out, read_same::same(other, one))
+pub fn print_both_ways(out: &mut impl Write, one: &Record, other: &Record) -> io::Result<()> {
+    print_answer(out, read_same::same(*one, *other).map(|same| same as u64))?;
+    print_answer(out, read_same::same(*other, *one).map(|same| same as u64))
 }
 
-fn print_same(out: &mut impl Write, rec: Record, other: Record) -> io::Result<()> {
-    print(out, b"same")?;
+fn print_same(out: &mut impl Write, rec: &Record, other: &Record) -> io::Result<()> {
+    write!(out, "same")?;
     print_both_ways(out, rec, other)?;
-    print_line_end(out)
+    writeln!(out)
 }
 
 // ---- flows for a step not taken
 
-fn is_given(amount: Amount) -> bool {
-    match amount {
-        Amount::Given(_) => true,
-        Amount::Refused(_) => false,
-    }
+fn is_screened(rec: &Record, layer: u64) -> bool
+    requires { (1 ≤ layer) × (layer ≤ 20) }
+{
+    layer <= rec.site.layers && rec.site.screened[layer as usize - 1] == 1
 }
 
-fn is_screened(rec: Record, layer: u64) -> bool {
-    if layer == 0 {
-        return false;
-    }
-    if 20 < layer {
-        return false;
-    }
-    if rec.site.layers < layer {
-        return false;
-    }
-    let site = rec.site;
-    site.screened[layer as usize - 1] == 1
-}
-
-fn print_row_head(out: &mut impl Write, word: &[u8], dt: u64, layer: u64) -> io::Result<()> {
-    print(out, word)?;
-    print_number(out, dt)?;
-    print_number(out, layer)
-}
-
-fn print_inward(out: &mut impl Write, rec: Record, dt: u64) -> io::Result<()> {
-    let mut i: u64 = 1;
-    while i <= 20 {
+fn print_inward(out: &mut impl Write, rec: &Record, dt: u64) -> io::Result<()> {
+    for i in 1..=20 {
         if is_screened(rec, i) {
-            print_row_head(out, b"inward", dt, i)?;
-            print_amount(
-                out,
-                read_flow::face_flow(rec, Place::Cell(i, 1), Place::Well, dt),
-            )?;
-            print_line_end(out)?;
+            write!(out, "inward {dt} {i}")?;
+            print_last(out, face_flow(*rec, Place::Cell(i, 1), Place::Well, dt))?;
         }
-        i += 1;
     }
     Ok(())
 }
 
-// From each stored cell of a layer to the next column, or, where `below` is 1, to the layer below; the first refusal ends the row.
+// From each stored cell of a layer to the next column, or to the layer below; the first refusal ends the row.
 fn print_row_flows(
     out: &mut impl Write,
-    rec: Record,
+    rec: &Record,
     layer: u64,
-    below: u64,
+    below: bool,
     dt: u64,
 ) -> io::Result<()>
-    requires { (layer ≤ 20) × (below ≤ 1) }
+    requires { layer ≤ 20 }
 {
-    let columns = rec.site.columns;
-    let mut j: u64 = 1;
-    while j < 50 {
-        if columns <= j {
-            return Ok(());
+    for j in 1..rec.site.columns.min(COLUMN_PLACES as u64) {
+        let next = if below {
+            Place::Cell(layer + 1, j)
+        } else {
+            Place::Cell(layer, j + 1)
+        };
+        let flow = face_flow(*rec, Place::Cell(layer, j), next, dt);
+        print_answer(out, flow)?;
+        if flow.is_err() {
+            break;
         }
-        let amount = read_flow::face_flow(
-            rec,
-            Place::Cell(layer, j),
-            Place::Cell(layer + below, j + 1 - below),
-            dt,
-        );
-        print_amount(out, amount)?;
-        if !is_given(amount) {
-            return Ok(());
-        }
-        j += 1;
     }
     Ok(())
 }
 
-// The flows of each layer, across or, where `below` is 1, down to the layer below.
-fn print_rows(out: &mut impl Write, rec: Record, word: &[u8], below: u64, dt: u64) -> io::Result<()>
-    requires { below ≤ 1 }
-{
-    let layers = rec.site.layers;
-    let mut i: u64 = 1;
-    while i <= 20 {
-        if layers < i + below {
-            return Ok(());
-        }
-        print_row_head(out, word, dt, i)?;
+// The flows of each layer, across or down to the layer below.
+fn print_rows(out: &mut impl Write, rec: &Record, below: bool, dt: u64) -> io::Result<()> {
+    let word = if below { "down" } else { "across" };
+    let rows = rec.site.layers.saturating_sub(below as u64);
+    for i in 1..=rows.min(LAYER_PLACES as u64) {
+        write!(out, "{word} {dt} {i}")?;
         print_row_flows(out, rec, i, below, dt)?;
-        print_line_end(out)?;
-        i += 1;
+        writeln!(out)?;
     }
     Ok(())
 }
 
-// The topmost screened layer, or 0.
-fn first_screened(rec: Record) -> u64 {
-    let mut i: u64 = 1;
-    while i <= 20 {
+// From the topmost screened layer, or from layer 0, which there is not.
+fn print_length(out: &mut impl Write, rec: &Record, dt: u64) -> io::Result<()> {
+    let mut first = 0;
+    for i in 1..=20 {
         if is_screened(rec, i) {
-            return i;
+            first = i;
+            break;
         }
-        i += 1;
     }
-    0
-}
-
-fn print_length(out: &mut impl Write, rec: Record, dt: u64) -> io::Result<()> {
-    print(out, b"length")?;
-    print_number(out, dt)?;
-    print_amount(
-        out,
-        read_flow::face_flow(rec, Place::Cell(first_screened(rec), 1), Place::Well, dt),
-    )?;
-    print_line_end(out)
+    write!(out, "length {dt}")?;
+    print_last(out, face_flow(*rec, Place::Cell(first, 1), Place::Well, dt))
 }
 
 // ---- what would hold back a step not taken
 
-// Layer and column, 0 and 0 for the well.
-fn print_place(out: &mut impl Write, place: Place) -> io::Result<()> {
-    match place {
-        Place::Well => {
-            print_number(out, 0)?;
-            print_number(out, 0)
-        }
-        Place::Cell(layer, column) => {
-            print_number(out, layer)?;
-            print_number(out, column)
-        }
-    }
-}
-
-// The number of a refusal, and the place that brings it about.
+// The number of a refusal, and the layer and column that bring it about, 0 and 0 for the well.
 fn print_held(out: &mut impl Write, number: u64, place: Place) -> io::Result<()> {
-    print_number(out, number)?;
-    print_place(out, place)
+    match place {
+        Place::Well => write!(out, " {number} 0 0"),
+        Place::Cell(layer, column) => write!(out, " {number} {layer} {column}"),
+    }
 }
 
-fn print_limit(out: &mut impl Write, limit: Limiting) -> io::Result<()> {
+fn print_limit(out: &mut impl Write, limit: Result<Limiting, Refusal>) -> io::Result<()> {
     match limit {
-        Limiting::TooLong(place, longest) => {
+        Ok(Limiting::TooLong(place, longest)) => {
             print_held(out, 8, place)?;
-            print_number(out, longest)
+            write!(out, " {longest}")
         }
-        Limiting::PastIntake(place) => print_held(out, 10, place),
-        Limiting::PastBottom(place) => print_held(out, 11, place),
-        Limiting::Nothing => print(out, b" nothing"),
-        Limiting::Refused(number) => print_refusal(out, number),
+        Ok(Limiting::PastIntake(place)) => print_held(out, 10, place),
+        Ok(Limiting::PastBottom(place)) => print_held(out, 11, place),
+        Ok(Limiting::Nothing) => write!(out, " nothing"),
+        Err(refusal) => print_refusal(out, refusal),
     }
 }
 
-// The longest step that 8 allows, where that is what holds the step back; else the greatest length.
-fn longest_in(limit: Limiting) -> u64 {
-    if let Limiting::TooLong(_, longest) = limit {
-        return longest;
-    }
-    LENGTH_LIMIT
-}
-
-// What would hold back a step of a rate and a length; gives the longest step that 8 allows, or the greatest length.
-pub fn print_limiting(out: &mut impl Write, rec: Record, rate: u64, dt: u64) -> io::Result<u64> {
-    print(out, b"limiting")?;
-    print_number(out, rate)?;
-    print_number(out, dt)?;
-    let limit = read_limiting::limiting_place(rec, rate, dt);
+// What would hold back a step of a rate and a length; gives the longest step that 8 allows, where 8 is what holds it back, or the greatest length.
+pub fn print_limiting(out: &mut impl Write, rec: &Record, rate: u64, dt: u64) -> io::Result<u64> {
+    write!(out, "limiting {rate} {dt}")?;
+    let limit = read_limiting::limiting_place(*rec, rate, dt);
     print_limit(out, limit)?;
-    print_line_end(out)?;
-    Ok(longest_in(limit))
+    writeln!(out)?;
+    if let Ok(Limiting::TooLong(_, longest)) = limit {
+        return Ok(longest);
+    }
+    Ok(LENGTH_LIMIT)
 }
 
 // Where 8 is what holds the step of the greatest length back: a step of 1 µs more than the longest that 8 allows, the longest, and that at the
 // greatest rate.
-fn print_longest(out: &mut impl Write, rec: Record, rate: u64, longest: u64) -> io::Result<()> {
-    if LENGTH_LIMIT <= longest {
-        return Ok(());
-    }
-    print_limiting(out, rec, rate, longest + 1)?;
-    print_limiting(out, rec, rate, longest)?;
-    print_limiting(out, rec, RATE_LIMIT, longest)?;
-    Ok(())
-}
-
-fn print_limits(out: &mut impl Write, rec: Record, rate: u64, dt: u64) -> io::Result<()> {
+fn print_limits(out: &mut impl Write, rec: &Record, rate: u64, dt: u64) -> io::Result<()> {
     print_limiting(out, rec, rate, dt)?;
     let longest = print_limiting(out, rec, rate, LENGTH_LIMIT)?;
-    print_longest(out, rec, rate, longest)?;
+    if longest < LENGTH_LIMIT {
+        print_limiting(out, rec, rate, longest + 1)?;
+        print_limiting(out, rec, rate, longest)?;
+        print_limiting(out, rec, RATE_LIMIT, longest)?;
+    }
     print_limiting(out, rec, RATE_LIMIT, dt)?;
     Ok(())
 }
@@ -557,162 +350,131 @@ fn print_limits(out: &mut impl Write, rec: Record, rate: u64, dt: u64) -> io::Re
 // Every reading of a record; those of a step not taken for a rate and a length.
 pub fn print_readings(
     out: &mut impl Write,
-    rec: Record,
-    before: Record,
-    start: Record,
+    rec: &Record,
+    before: &Record,
+    start: &Record,
     rate: u64,
     dt: u64,
 ) -> io::Result<()> {
-    print(out, b"time")?;
-    print_number(out, rec.time)?;
-    print_line_end(out)?;
+    writeln!(out, "time {}", rec.time)?;
     print_budget(out, rec)?;
-    print(out, b"checksum")?;
-    print_number(out, check_hash::checksum_of(rec))?;
-    print_line_end(out)?;
+    writeln!(out, "checksum {}", checksum_of(rec))?;
     print_depths(out, rec)?;
     print_sets(out, rec)?;
     print_deep_cells(out, rec)?;
-    print_same(out, rec, rec)?;
-    print_same(out, rec, before)?;
-    print_same(out, rec, start)?;
+    for other in [rec, before, start] {
+        print_same(out, rec, other)?;
+    }
     print_inward(out, rec, dt)?;
-    print_rows(out, rec, b"across", 0, dt)?;
-    print_rows(out, rec, b"down", 1, dt)?;
-    print_length(out, rec, 0)?;
-    print_length(out, rec, 1)?;
-    print_length(out, rec, dt)?;
-    print_length(out, rec, 1000000000)?;
-    print_length(out, rec, 1000000001)?;
+    print_rows(out, rec, false, dt)?;
+    print_rows(out, rec, true, dt)?;
+    for length in [0, 1, dt, LENGTH_LIMIT, LENGTH_LIMIT + 1] {
+        print_length(out, rec, length)?;
+    }
     print_limits(out, rec, rate, dt)
 }
 
 // ---- readings that 12 refuses, before any length is judged, and what would hold back steps that 7 refuses
 
-fn print_no_place(out: &mut impl Write, rec: Record, layer: u64, column: u64) -> io::Result<()> {
-    print(out, b"no place")?;
-    print_amount(
-        out,
-        read_drawdown::drawdown(rec, Place::Cell(layer, column)),
-    )?;
-    print_line_end(out)
-}
-
-fn print_no_face(out: &mut impl Write, rec: Record, from: Place, to: Place) -> io::Result<()> {
-    print(out, b"no face")?;
-    print_amount(out, read_flow::face_flow(rec, from, to, 0))?;
-    print_line_end(out)
-}
-
-fn print_no_places(out: &mut impl Write, rec: Record, layers: u64, columns: u64) -> io::Result<()>
+fn print_no_places(out: &mut impl Write, rec: &Record, layers: u64, columns: u64) -> io::Result<()>
     requires { (layers ≤ 20) × (columns ≤ 50) }
 {
-    print_no_place(out, rec, 0, 1)?;
-    print_no_place(out, rec, 1, 0)?;
-    print_no_place(out, rec, 1, columns)?;
-    print_no_place(out, rec, layers, columns + 1)?;
-    print_no_place(out, rec, layers + 1, 1)?;
-    print_no_place(out, rec, 18446744073709551615, 18446744073709551615)
-}
-
-fn print_no_faces(out: &mut impl Write, rec: Record, layers: u64, columns: u64) -> io::Result<()>
-    requires { (layers ≤ 20) × (columns ≤ 50) }
-{
-    print_no_face(out, rec, Place::Well, Place::Well)?;
-    print_no_face(out, rec, Place::Well, Place::Cell(1, 1))?;
-    print_no_face(out, rec, Place::Cell(layers, 2), Place::Well)?;
-    print_no_face(out, rec, Place::Cell(1, 1), Place::Cell(1, 1))?;
-    print_no_face(out, rec, Place::Cell(1, 1), Place::Cell(2, 2))?;
-    print_no_face(out, rec, Place::Cell(1, columns), Place::Cell(2, columns))?;
-    print_no_face(
-        out,
-        rec,
-        Place::Cell(1, columns),
-        Place::Cell(1, columns + 1),
-    )?;
-    print_no_face(out, rec, Place::Cell(layers, 1), Place::Cell(layers + 1, 1))?;
-    print_no_face(out, rec, Place::Cell(0, 1), Place::Cell(1, 1))?;
-    print_no_face(
-        out,
-        rec,
-        Place::Cell(1, 18446744073709551615),
-        Place::Cell(1, 0),
-    )
-}
-
-fn print_no_limits(out: &mut impl Write, rec: Record) -> io::Result<()> {
-    print_limiting(out, rec, 10000001, 1)?;
-    print_limiting(out, rec, 0, 0)?;
-    print_limiting(out, rec, 0, 1000000001)?;
-    print_limiting(out, rec, 18446744073709551615, 18446744073709551615)?;
+    for (layer, column) in [
+        (0, 1),
+        (1, 0),
+        (1, columns),
+        (layers, columns + 1),
+        (layers + 1, 1),
+        (u64::MAX, u64::MAX),
+    ] {
+        write!(out, "no place")?;
+        print_last(out, drawdown(*rec, Place::Cell(layer, column)))?;
+    }
     Ok(())
 }
 
-pub fn print_refused_readings(out: &mut impl Write, rec: Record) -> io::Result<()> {
+fn print_no_faces(out: &mut impl Write, rec: &Record, layers: u64, columns: u64) -> io::Result<()>
+    requires { (layers ≤ 20) × (columns ≤ 50) }
+{
+    for (from, to) in [
+        (Place::Well, Place::Well),
+        (Place::Well, Place::Cell(1, 1)),
+        (Place::Cell(layers, 2), Place::Well),
+        (Place::Cell(1, 1), Place::Cell(1, 1)),
+        (Place::Cell(1, 1), Place::Cell(2, 2)),
+        (Place::Cell(1, columns), Place::Cell(2, columns)),
+        (Place::Cell(1, columns), Place::Cell(1, columns + 1)),
+        (Place::Cell(layers, 1), Place::Cell(layers + 1, 1)),
+        (Place::Cell(0, 1), Place::Cell(1, 1)),
+        (Place::Cell(1, u64::MAX), Place::Cell(1, 0)),
+    ] {
+        write!(out, "no face")?;
+        print_last(out, face_flow(*rec, from, to, 0))?;
+    }
+    Ok(())
+}
+
+pub fn print_refused_readings(out: &mut impl Write, rec: &Record) -> io::Result<()> {
     let layers = rec.site.layers;
     let columns = rec.site.columns;
-    if 20 < layers {
-        return Ok(());
-    }
-    if 50 < columns {
+    if 20 < layers || 50 < columns {
         return Ok(());
     }
     print_no_places(out, rec, layers, columns)?;
     print_no_faces(out, rec, layers, columns)?;
-    print_no_limits(out, rec)
+    for (rate, dt) in [
+        (RATE_LIMIT + 1, 1),
+        (0, 0),
+        (0, LENGTH_LIMIT + 1),
+        (u64::MAX, u64::MAX),
+    ] {
+        print_limiting(out, rec, rate, dt)?;
+    }
+    Ok(())
 }
 
 // ---- head losses
 
 // A float as its 64 bits.
 fn print_float(out: &mut impl Write, x: f64) -> io::Result<()> {
-    if x == x {
-        print_number(out, f64::to_bits(x))?;
+    if x.is_nan() {
+        write!(out, " nan")
     } else {
-        print(out, b" nan")?;
+        write!(out, " {}", x.to_bits())
     }
-    Ok(())
 }
 
-fn print_loss_figures(out: &mut impl Write, rec: Record, layer: u64, dt: u64) -> io::Result<()> {
-    let loss = read_head_loss::head_loss(rec, layer, dt);
-    match loss {
-        Loss::Refused(number) => print_refusal(out, number)?,
-        Loss::Given(losses) => {
-            print_float(out, losses.inflow)?;
-            print_float(out, losses.screen_loss)?;
-            print_float(out, losses.pipe_loss)?;
+fn print_head_loss(out: &mut impl Write, rec: &Record, layer: u64, dt: u64) -> io::Result<()> {
+    match read_head_loss::head_loss(*rec, layer, dt) {
+        Ok(losses) => {
+            for x in [losses.inflow, losses.screen_loss, losses.pipe_loss] {
+                print_float(out, x)?;
+            }
         }
+        Err(refusal) => print_refusal(out, refusal)?,
     }
-    print_line_end(out)
+    writeln!(out)
 }
 
 // The head losses of every screened layer for a length not taken.
-pub fn print_heads(out: &mut impl Write, rec: Record, dt: u64) -> io::Result<()> {
-    let mut i: u64 = 1;
-    while i <= 20 {
+pub fn print_heads(out: &mut impl Write, rec: &Record, dt: u64) -> io::Result<()> {
+    for i in 1..=20 {
         if is_screened(rec, i) {
-            print_row_head(out, b"head", dt, i)?;
-            print_loss_figures(out, rec, i, dt)?;
+            write!(out, "head {dt} {i}")?;
+            print_head_loss(out, rec, i, dt)?;
         }
-        i += 1;
     }
     Ok(())
 }
 
-fn print_no_screen(out: &mut impl Write, rec: Record, layer: u64) -> io::Result<()> {
-    print(out, b"no screen")?;
-    print_loss_figures(out, rec, layer, 0)
-}
-
 // Layers that 12 refuses, before any length is judged.
-pub fn print_refused_heads(out: &mut impl Write, rec: Record) -> io::Result<()> {
+pub fn print_refused_heads(out: &mut impl Write, rec: &Record) -> io::Result<()> {
     let layers = rec.site.layers;
-    if 20 < layers {
-        return Ok(());
+    if layers <= 20 {
+        for layer in [0, 1, layers + 1, u64::MAX] {
+            write!(out, "no screen")?;
+            print_head_loss(out, rec, layer, 0)?;
+        }
     }
-    print_no_screen(out, rec, 0)?;
-    print_no_screen(out, rec, 1)?;
-    print_no_screen(out, rec, layers + 1)?;
-    print_no_screen(out, rec, 18446744073709551615)
+    Ok(())
 }

@@ -1,9 +1,0 @@
--- `check_report::print_inward`.
-use Rattle.std.proofs.Common.{◌≤◌, ◌-◌}
-use Rattle.check_report.proofs.print_inward.Given as goal
-
-abbrev pub invariant-loop-i : goal.invariant-loop-i
-invariant-loop-i g l = l.i ≤ 21
-
-abbrev pub decreases-loop-i : goal.decreases-loop-i
-decreases-loop-i g l = 21 - l.i
