@@ -3,13 +3,7 @@
 --     after_shallow       nothing that `step_drawdowns::drawdown` asks is wanting
 --     bottom_answer       the deepest of the slots of layer 1 is the deepest cell
 --     work_asked, depth_asked, work_given     what `step_sweep::work_step` asks and gives
-use mathlib.Core.Path.{◌≡◌, refl, sym, ap, ap₂, ◌∙◌}
-use mathlib.Core.Bool.{true, false}
-use mathlib.Core.List.{List}
-use Prim.Native.Nat.{ℕ, zero, suc, ◌+◌, ◌*◌, ◌-◌, ◌≤◌, ◌<◌}
-use native.Mathlib.Omega.{arith}
-use lib.IntN.{ℤ, pos}
-use lib.ListN.{get_or}
+use Rattle.std.proofs.Common.{◌≡◌, refl, sym, ap, ap₂, ◌∙◌, true, false, List, ℕ, zero, suc, ◌+◌, ◌*◌, ◌-◌, ◌≤◌, ◌<◌, arith, ℤ, pos, get_or}
 use lib.Signed.{lt_z}
 use Rattle.limits.specs.Limits.{drawdown_limit}
 use Rattle.network.specs.Network.{Network, storage_at, drawdown, losses_after}

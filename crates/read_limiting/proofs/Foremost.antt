@@ -1,16 +1,11 @@
 -- The first of the numbers k to k + n that no other comes before.
 --     Foremost          what there is to say of it; one_foremost: of no other number
 --     Order             what an order has to be for that; foremost_is: then `foremost` gives it
---     foremost_none, foremost_more     one number, and one more; less_more: with the value of f there
-use mathlib.Core.Path.{◌≡◌, refl, sym, ap, ap₂, ◌∙◌}
-use mathlib.Core.Bool.{Bool, true, false, cond, true≢false}
-use Prim.Native.Nat.{ℕ, zero, suc, ◌+◌, ◌-◌, ◌≤◌, ◌<◌}
+--     foremost_none               one number; replaced_by, stays_at: one number more, by its test
+use Rattle.std.proofs.Common.{◌≡◌, refl, sym, ap, ◌∙◌, Bool, true, false, cond, true≢false, ℕ, zero, suc, ◌+◌, ◌-◌, ◌≤◌, ◌<◌, arith}
 use native.Mathlib.Decide.{ℕ_discrete}
-use native.Mathlib.Omega.{arith}
-use lib.Dec.{ltb}
 use Rattle.laws.specs.Number.{neither_below}
 use Rattle.read_limiting.specs.Limiting.{foremost}
-use Rattle.read_limiting.specs.Slots.{less_at}
 
 pub record Foremost (before : ℕ → ℕ → Bool) (k n p : ℕ) : Type 0 where
   pub least : k ≤ p
@@ -88,7 +83,7 @@ pub foremost_none : (before : ℕ → ℕ → Bool) (k : ℕ) → foremost befor
 unfolding foremost
 foremost_none before k = refl
 
-pub foremost_more : (before : ℕ → ℕ → Bool) (k : ℕ) → 0 < k → cond (before k (foremost before 0 (k - 1))) k (foremost before 0 (k - 1)) ≡ foremost before 0 k
+foremost_more : (before : ℕ → ℕ → Bool) (k : ℕ) → 0 < k → cond (before k (foremost before 0 (k - 1))) k (foremost before 0 (k - 1)) ≡ foremost before 0 k
 unfolding foremost
 foremost_more before zero h = absurd (omega arith)
 foremost_more before (suc n) h =
@@ -96,15 +91,13 @@ foremost_more before (suc n) h =
     let number : suc n ≡ 0 + suc n = omega arith in
     rw same (ap (λ m. cond (before m (foremost before 0 n)) m (foremost before 0 n)) number)
 
--- the first with the least f, and that f, from those of the numbers before
-module _ (f : ℕ → ℕ) {k slot value here : ℕ} (h : 0 < k) (s : slot ≡ foremost (less_at f) 0 (k - 1)) (v : value ≡ f slot) (e : here ≡ f k) where
-  pub less_more : {slot' value' : ℕ} → slot' ≡ cond (ltb here value) k slot → value' ≡ cond (ltb here value) here value → (slot' ≡ foremost (less_at f) 0 k) × (value' ≡ f slot')
-  unfolding less_at
-  less_more s' v' = (
-    s' ∙ ap₂ (λ x y. cond (ltb x y) k slot) e v ∙ ap (λ p. cond (ltb (f k) (f p)) k p) s ∙ foremost_more (less_at f) k h,
-    v' ∙ either (ltb here value) ∙ ap f (sym s'),
-  )
-    where
-      either : (t : Bool) → cond t here value ≡ f (cond t k slot)
-      either true = e
-      either false = v
+-- one number more, by the test of it against the first of those before
+module _ (before : ℕ → ℕ → Bool) {k p : ℕ} (h : 0 < k) (s : p ≡ foremost before 0 (k - 1)) where
+  one_more : {t : Bool} → before k p ≡ t → cond t k p ≡ foremost before 0 k
+  one_more e = rw (← e) (ap (λ q. cond (before k q) k q) s ∙ foremost_more before k h)
+
+  pub replaced_by : before k p ≡ true → k ≡ foremost before 0 (k + 1 - 1)
+  replaced_by e = let same : k + 1 - 1 ≡ k = omega arith in rw same (one_more e)
+
+  pub stays_at : before k p ≡ false → p ≡ foremost before 0 (k + 1 - 1)
+  stays_at e = let same : k + 1 - 1 ≡ k = omega arith in rw same (one_more e)

@@ -1,13 +1,7 @@
 -- What `step` has judged where it answers a number.
 --     tests_8, tests_10, tests_11     the tests that it has gone by; tests_other: which numbers are left
 --     refused_8, refused_11           so nothing is wanting that this crate's functions ask
-use mathlib.Core.Path.{◌≡◌, refl}
-use mathlib.Core.Bool.{Bool, true, false, not}
-use mathlib.Core.Logic.{◌⊎◌, inl, inr}
-use mathlib.Core.List.{List, [], ◌∷◌}
-use Prim.Native.Nat.{ℕ, ◌<◌}
-use native.Mathlib.Omega.{arith}
-use lib.IntN.{ℤ}
+use Rattle.std.proofs.Common.{◌≡◌, refl, Bool, true, false, not, ◌⊎◌, inl, inr, List, [], ◌∷◌, ℕ, ◌<◌, arith, ℤ}
 use borrow.Author.Tests.{not-true, not-false}
 use Rattle.laws.specs.Lists.{first}
 use Rattle.network.specs.Network.{Network, losses_after, stable, unstable, rate_or_length_out, totals_pass, well_too_deep, table_too_deep, step_tests}

@@ -1,12 +1,8 @@
 -- What the theorem says of an answer to 8 or 11 is said of no other.
 --     one_length     of no other place and length; one_bottom: of no other place
-use mathlib.Core.Path.{◌≡◌, sym, ap, ap₂, subst, ◌∙◌}
-use mathlib.Core.Bool.{true, true≢false}
-use Prim.Native.Nat.{ℕ, suc, ◌*◌, ◌^◌, ◌≤◌, ◌<◌}
-use native.Mathlib.Nat.{mul-le-mul_right}
-use native.Mathlib.Omega.{arith}
-use lib.Signed.{◌≤ℤ◌, ◌<ℤ◌, clash_ℤ}
-use borrow.Author.Tests.{leb-true, le-leb, not-true, not-false}
+use Rattle.std.proofs.Common.{◌≡◌, sym, ap, ap₂, subst, ◌∙◌, true, true≢false, ℕ, suc, ◌*◌, ◌^◌, ◌≤◌, ◌<◌, mul-le-mul_right, arith, ◌≤ℤ◌, ◌<ℤ◌, leb-true, le-leb}
+use lib.Signed.{clash_ℤ}
+use borrow.Author.Tests.{not-true, not-false}
 use Rattle.laws.specs.All.{all_at}
 use Rattle.laws.specs.Number.{neither_below}
 use Rattle.laws.specs.Rows.{all_from}

@@ -3,15 +3,9 @@
 --     slot_order, column_order     the deeper slot, and the deeper cell of layer 1
 --     not_less, is_less, when_not_less, when_less     the test of two allowed steps, from their numbers and back
 --     shorter_order     the shorter allowed step
-use mathlib.Core.Path.{◌≡◌, refl}
-use mathlib.Core.Bool.{Bool, true, false, not, ◌&&◌, ◌||◌, false≢true, true≢false}
-use mathlib.Core.List.{List}
-use Prim.Native.Nat.{ℕ, ◌≤◌, ◌<◌}
-use native.Mathlib.Omega.{arith}
-use lib.Dec.{ltb}
-use lib.IntN.{ℤ, pos, negsuc}
+use Rattle.std.proofs.Common.{◌≡◌, refl, Bool, true, false, not, ◌&&◌, ◌||◌, true≢false, List, ℕ, ◌≤◌, ◌<◌, arith, ltb, ℤ, pos, negsuc, ltb-true, ltb-false, lt-ltb, le-ltb}
+use mathlib.Core.Bool.{false≢true}
 use lib.Signed.{lt_z, lt_z_yes, clash_ℤ}
-use borrow.Author.Tests.{ltb-true, ltb-false, lt-ltb, le-ltb}
 use Rattle.laws.specs.Integer.{not_past, ≤ℤ_trans}
 use Rattle.network.specs.Network.{Network, drawdown}
 use Rattle.network.specs.Grid.{Grid, place, network_of}

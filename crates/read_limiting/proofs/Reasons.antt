@@ -2,25 +2,20 @@
 --     numbers                         an answer of a refusal is that of the number that `step` answers
 --     of_length, of_intake, of_bottom what holds of the place; of_nothing: of the step where there is none
 --     only                            no other answer with its number is so
-use mathlib.Core.Path.{◌≡◌, refl, sym, ap, ◌∙◌}
-use mathlib.Core.Bool.{Bool, true, false, cond, not, true≢false}
-use mathlib.Core.Logic.{inl, inr, ⊎_elim}
+use Rattle.std.proofs.Common.{Result, Ok, Err, ◌≡◌, refl, sym, ap, ◌∙◌, Bool, true, false, cond, not, true≢false, inl, inr, ⊎_elim, List, map, ℕ, suc, ◌*◌, ◌-◌, ◌^◌, ◌≤◌, ◌<◌, arith, eqb, leb, ℤ, pos, ◌≤ℤ◌, ◌<ℤ◌, eqb-true, ltb-true, le-ltb, ne_eqb}
 use mathlib.Core.List.Memᴰ
-use mathlib.Core.List.{List, map}
-use Prim.Native.Nat.{ℕ, suc, ◌*◌, ◌-◌, ◌^◌, ◌≤◌, ◌<◌}
 use native.Mathlib.Nat.{lt-div-mul-add}
-use native.Mathlib.Omega.{arith}
-use lib.Dec.{eqb, leb}
-use lib.IntN.{ℤ, pos}
-use lib.Signed.{◌≤ℤ◌, ◌<ℤ◌, lt_z, lt_z_yes, clash_ℤ}
-use borrow.Author.Tests.{eqb-true, eqb-false, ltb-true, le-ltb, lt-leb, ne_eqb}
+use lib.Signed.{lt_z, lt_z_yes, clash_ℤ}
+use borrow.Author.Tests.{eqb-false, lt-leb}
 use Rattle.laws.specs.All.{all_fails}
 use Rattle.laws.specs.Integer.{not_past, ≤ℤ_trans}
 use Rattle.laws.specs.Lists.{range}
 use Rattle.laws.specs.Number.{below_or_not}
 use Rattle.laws.specs.Sums.{none, range_mem}
 use Rattle.limits.specs.Limits.{rate_limit, length_limit}
-use Rattle.refusals.specs.Refusals.{outcome_of}
+use Rattle.refusals.specs.declared.Refusal.{Refusal}
+use Rattle.refusals.specs.Refusals as refusals
+use Rattle.refusals.specs.Refusals.{outcome_of, refusal, refusal_number}
 use Rattle.network.specs.Network.{Network, storage_at, drawdown, losses_after, conductance_sum, stable, unstable, length_out, rate_or_length_out, well_too_deep, table_too_deep}
 use Rattle.network.specs.Grid.{Grid, place, place_count, stored_columns, one_per_place, network_of}
 use Rattle.network.proofs.laws.Places.{by_place, get_or_one}
@@ -28,7 +23,6 @@ use Rattle.site.specs.Laws.{counts_hold_lem}
 use Rattle.site.specs.Limited.{Counts}
 use Rattle.record.specs.declared.Record.{Record}
 use Rattle.record.specs.Record.{grid_of, state_of}
-use Rattle.record.specs.Laws.{refusal_of, refused_of}
 use Rattle.validity.specs.Validity.{valid}
 use Rattle.validity.specs.Laws.{Valid, valid_record, valid_proper}
 use Rattle.step_rules.specs.Step.{step_refusal, step_of}
@@ -41,6 +35,7 @@ use Rattle.readings.specs.Laws.{cell_bounds, cell_named, named_cell}
 use Rattle.read_limiting.specs.declared.Limiting.{Limiting}
 use Rattle.read_limiting.specs.Limiting.{sets_limit, longest_at, shorter_at, shortest_place, deeper_at, deepest_column, name_of, too_long_in, past_bottom_in, limiting_in, limiting_of}
 use Rattle.read_limiting.specs.Reason.{number_in, depth_after, OfLength, OfBottom, OfNothing, Says, Agrees, Reason}
+use Rattle.read_limiting.proofs.Answers.{number_from}
 use Rattle.read_limiting.proofs.Foremost.{Foremost, foremost_is}
 use Rattle.read_limiting.proofs.Judged.{tests_8, tests_10, tests_11, tests_other}
 use Rattle.read_limiting.proofs.OneAnswer.{one_length, one_bottom}
@@ -61,11 +56,11 @@ module _ (r : Record) (rate dt : ℕ) where
 
   -- an answer of a refusal is that of the number by which it is made
   number_of_lem : (m n : ℕ) → 0 < n → number_in (limiting_in G (state_of r).losses rate dt m) ≡ n → m ≡ n
-  unfolding limiting_in too_long_in past_bottom_in number_in
+  unfolding limiting_in too_long_in past_bottom_in number_in refusal_number
   number_of_lem m n h = by_tests (eqb m 14) (eqb m 8) (eqb m 10) (eqb m 11) (eqb-true m 14) (eqb-true m 8) (eqb-true m 10) (eqb-true m 11)
     where
       by_tests : (a b c d : Bool) → (a ≡ true → m ≡ 14) → (b ≡ true → m ≡ 8) → (c ≡ true → m ≡ 10) → (d ≡ true → m ≡ 11)
-          → number_in (cond a (Limiting.Refused 14) (cond b (too_long_in G) (cond c (Limiting.PastIntake Well) (cond d (past_bottom_in G after) Limiting.Nothing)))) ≡ n → m ≡ n
+          → number_in (cond a (Err Refusal.Record) (Ok (cond b (too_long_in G) (cond c (Limiting.PastIntake Well) (cond d (past_bottom_in G after) Limiting.Nothing))))) ≡ n → m ≡ n
       by_tests true b c d i j k l e = i refl ∙ e
       by_tests false true c d i j k l e = j refl ∙ e
       by_tests false false true d i j k l e = k refl ∙ e
@@ -73,16 +68,16 @@ module _ (r : Record) (rate dt : ℕ) where
       by_tests false false false false i j k l e = absurd (omega (arith, e, h))
 
   -- and `step` answers it
-  exactly : (n : ℕ) → 0 < n → number_in (limiting_in G (state_of r).losses rate dt n) ≡ n → Agrees r rate dt n
+  exactly : (n : ℕ) → 0 < n → n ≤ 14 → number_in (limiting_in G (state_of r).losses rate dt n) ≡ n → Agrees r rate dt n
   unfolding limiting_of
-  exactly n h e = (
+  exactly n h g e = (
     λ told. step_outcome r rate dt ∙ ap outcome_of (number_of_lem (step_refusal r rate dt) n h told),
-    λ refused. ap (λ m. number_in (limiting_in G (state_of r).losses rate dt m)) (refusal_of (step_refusal r rate dt) n (sym (step_outcome r rate dt) ∙ refused ∙ sym (refused_of n h))).0 ∙ e,
+    λ refused. ap (λ m. number_in (limiting_in G (state_of r).losses rate dt m)) (number_from (step_refusal r rate dt) n h g (sym (step_outcome r rate dt) ∙ refused)) ∙ e,
   )
 
   numbers : Agrees r rate dt 8 × Agrees r rate dt 10 × Agrees r rate dt 11 × Agrees r rate dt 14
-  unfolding limiting_in too_long_in past_bottom_in number_in
-  numbers = (exactly 8 (omega arith) refl, exactly 10 (omega arith) refl, exactly 11 (omega arith) refl, exactly 14 (omega arith) refl)
+  unfolding limiting_in too_long_in past_bottom_in number_in refusal_number
+  numbers = (exactly 8 (omega arith) (omega arith) refl, exactly 10 (omega arith) (omega arith) refl, exactly 11 (omega arith) (omega arith) refl, exactly 14 (omega arith) (omega arith) refl)
 
   -- ---- names
 
@@ -160,7 +155,7 @@ module _ (r : Record) (rate dt : ℕ) where
     sized = let t = step.within_limits rate dt (tests_8 r rate dt q).1 in rw (le-ltb rate_limit rate t.0, ne_eqb (suc n) 0 (omega arith), le-ltb length_limit (suc n) (omega (arith, t.1, shorter)))
 
     refused_more : (step_of r rate (suc n)).outcome ≡ outcome_of 8
-    unfolding outcome_of
+    unfolding refusals.given refusal
     refused_more = sym (ap (λ x. x.outcome) (step.refused_8 r rate (suc n) ok sized falls))
 
     number : number_of G (name_of G p) ≡ p
@@ -181,7 +176,7 @@ module _ (r : Record) (rate dt : ℕ) where
     }
       where
         given_8 : (step_of r rate n).outcome ≡ outcome_of 8 → stable N n ≡ false
-        given_8 e = (tests_8 r rate n (refusal_of (step_refusal r rate n) 8 (sym (step_outcome r rate n) ∙ e ∙ sym (refused_of 8 (omega arith)))).0).2
+        given_8 e = (tests_8 r rate n (number_from (step_refusal r rate n) 8 (omega arith) (omega arith) (sym (step_outcome r rate n) ∙ e))).2
 
   -- ---- 10
 
@@ -269,7 +264,7 @@ module _ (r : Record) (rate dt : ℕ) where
       m = step_refusal r rate dt
 
       by_tests : (a b c d : Bool) → eqb m 14 ≡ a → eqb m 8 ≡ b → eqb m 10 ≡ c → eqb m 11 ≡ d
-          → Says r rate dt (cond a (Limiting.Refused 14) (cond b (too_long_in G) (cond c (Limiting.PastIntake Well) (cond d (past_bottom_in G after) Limiting.Nothing))))
+          → Says r rate dt (cond a (Err Refusal.Record) (Ok (cond b (too_long_in G) (cond c (Limiting.PastIntake Well) (cond d (past_bottom_in G after) Limiting.Nothing)))))
       by_tests true b c d i j k l = refl
       by_tests false true c d i j k l = of_length (eqb-true m 8 j)
       by_tests false false true d i j k l = (refl, of_intake (eqb-true m 10 k))
@@ -288,28 +283,28 @@ module _ (r : Record) (rate dt : ℕ) where
   unfolding limiting_of
   given n h e = number_of_lem (step_refusal r rate dt) n h (sym e)
 
-  none_given : 0 ≡ number_in (limiting_of r rate dt) → Limiting.Nothing ≡ limiting_of r rate dt
-  unfolding limiting_of limiting_in too_long_in past_bottom_in number_in
+  none_given : 0 ≡ number_in (limiting_of r rate dt) → Ok Limiting.Nothing ≡ limiting_of r rate dt
+  unfolding limiting_of limiting_in too_long_in past_bottom_in number_in refusal_number
   none_given = by_tests (eqb m 14) (eqb m 8) (eqb m 10) (eqb m 11)
     where
       m : ℕ
       m = step_refusal r rate dt
 
-      by_tests : (a b c d : Bool) → let x = cond a (Limiting.Refused 14) (cond b (too_long_in G) (cond c (Limiting.PastIntake Well) (cond d (past_bottom_in G after) Limiting.Nothing))) in
-          0 ≡ number_in x → Limiting.Nothing ≡ x
+      by_tests : (a b c d : Bool) → let x = cond a (Err Refusal.Record) (Ok (cond b (too_long_in G) (cond c (Limiting.PastIntake Well) (cond d (past_bottom_in G after) Limiting.Nothing)))) in
+          0 ≡ number_in x → Ok Limiting.Nothing ≡ x
       by_tests true b c d e = absurd (omega (arith, e))
       by_tests false true c d e = absurd (omega (arith, e))
       by_tests false false true d e = absurd (omega (arith, e))
       by_tests false false false true e = absurd (omega (arith, e))
       by_tests false false false false e = refl
 
-  only : (a : Limiting) → number_in a ≡ number_in (limiting_of r rate dt) → Says r rate dt a → a ≡ limiting_of r rate dt
-  unfolding limiting_in too_long_in past_bottom_in number_in Says
-  only (Limiting.TooLong p n) e s = let q = given 8 (omega arith) e in one_length r rate dt s (of_length q) ∙ by_number q
-  only (Limiting.PastIntake p) e s = let well : p ≡ Well = s.0 in ap Limiting.PastIntake well ∙ by_number (given 10 (omega arith) e)
-  only (Limiting.PastBottom p) e s = let q = given 11 (omega arith) e in ap Limiting.PastBottom (one_bottom r rate dt s (of_bottom q)) ∙ by_number q
-  only Limiting.Nothing e s = none_given e
-  only (Limiting.Refused n) e s = let number : n ≡ 14 = s in ap Limiting.Refused number ∙ by_number (given 14 (omega arith) (sym number ∙ e))
+  only : (a : Result Limiting Refusal) → number_in a ≡ number_in (limiting_of r rate dt) → Says r rate dt a → a ≡ limiting_of r rate dt
+  unfolding limiting_in too_long_in past_bottom_in number_in refusal_number Says
+  only (Ok (Limiting.TooLong p n)) e s = let q = given 8 (omega arith) e in ap Ok (one_length r rate dt s (of_length q)) ∙ by_number q
+  only (Ok (Limiting.PastIntake p)) e s = let well : p ≡ Well = s.0 in ap (λ p. Ok (Limiting.PastIntake p)) well ∙ by_number (given 10 (omega arith) e)
+  only (Ok (Limiting.PastBottom p)) e s = let q = given 11 (omega arith) e in ap (λ p. Ok (Limiting.PastBottom p)) (one_bottom r rate dt s (of_bottom q)) ∙ by_number q
+  only (Ok Limiting.Nothing) e s = none_given e
+  only (Err k) e s = let record_is : k ≡ Refusal.Record = s in ap Err record_is ∙ by_number (given 14 (omega arith) (sym (ap refusal_number record_is) ∙ e))
 
   pub reason : Reason r rate dt
   reason = record { numbers = numbers; says = says; only = only }

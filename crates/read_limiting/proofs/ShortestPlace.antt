@@ -1,22 +1,14 @@
 -- The place with the shortest allowed step, by slots and by places.
---     word-given, over_given, none_given    the longest step in a word, by the quotient
+--     word-given, none_given      the longest step in a word, by the quotient
 --     well_word, cell_word        the longest step in a word, by slot, is that of the place
 --     well_answer                 where the well's is at most each cell's, the well is the place
 --     cell_answer                 where the first of the least cells' is below the well's, that cell is
-use mathlib.Core.Path.{◌≡◌, refl, sym, ap, ap₂, ◌∙◌}
-use mathlib.Core.Bool.{Bool, true, false, cond, true≢false}
-use mathlib.Core.Logic.{⊎_elim}
-use Prim.Native.Nat.{ℕ, suc, ◌+◌, ◌*◌, ◌-◌, ◌/◌, ◌%◌, ◌^◌, ◌≤◌, ◌<◌}
-use native.Mathlib.Nat.{le-div_iff_mul-le, mul-le-mul_right}
+use Rattle.std.proofs.Common.{◌≡◌, refl, sym, ap, ap₂, ◌∙◌, Bool, true, false, cond, true≢false, ⊎_elim, ℕ, suc, ◌+◌, ◌*◌, ◌-◌, ◌/◌, ◌%◌, ◌^◌, ◌≤◌, ◌<◌, le-div_iff_mul-le, mul-le-mul_right, arith, eqb, leb, ltb, get_or, ltb-true, ltb-false, lt-ltb, le-leb, eq-eqb, ne_eqb, Some, None, unwrap_or}
 use native.Mathlib.Decide.{ℕ_discrete}
-use native.Mathlib.Omega.{arith}
-use lib.Dec.{eqb, leb, ltb}
-use lib.ListN.{get_or}
-use borrow.Author.Tests.{ltb-true, ltb-false, lt-ltb, le-leb, lt-leb, eq-eqb, ne_eqb}
+use borrow.Author.Tests.{lt-leb}
 use Rattle.laws.specs.Number.{below_or_not}
 use Rattle.laws.specs.Rows.{all_from}
 use Rattle.words.specs.Fitted.{fitted}
-use Rattle.words.specs.declared.Quotient.TheVariants.{Word, Over}
 use Rattle.network.specs.Network.{Network, storage_at, conductance_sum, stable}
 use Rattle.network.specs.Grid.{Grid, place, place_count, one_per_place, network_of}
 use Rattle.network.proofs.laws.Places.{by_place, place-below, place_cell, get_or_one}
@@ -31,7 +23,7 @@ use Rattle.slot_places.specs.Slots.{slot_at}
 use Rattle.readings.specs.declared.Place.TheVariants.{Well, Cell}
 use Rattle.read_limiting.specs.declared.Limiting.{Limiting}
 use Rattle.read_limiting.specs.Limiting.{foremost, sets_limit, longest_at, shorter_at, shortest_place, name_of, too_long_in}
-use Rattle.read_limiting.specs.Slots.{slot_place, no_limit, in_word, longest_word, cell_longest, less_at, TooLongFor}
+use Rattle.read_limiting.specs.Slots.{slot_place, no_limit, in_word, longest_word, cell_longest, slot_longest, less_at, TooLongFor}
 use Rattle.read_limiting.proofs.Foremost.{Foremost, one_foremost, foremost_is}
 use Rattle.read_limiting.proofs.Orders.{not_less, is_less, less_order, shorter_order}
 
@@ -85,21 +77,13 @@ module _ (c s : ℕ) where
       by_test false = in_word_fits (10 ^ 6 * s / c)
 
   -- from the quotient that `words` gives
-  by_word : (t : Bool) {n : ℕ} → cond t (Word (10 ^ 6 * s / c)) Over ≡ Word n → n ≡ cond t (10 ^ 6 * s / c) no_limit
-  by_word true e = sym cc
-  by_word false e = let none : ◌≡◌ {A = ℕ} 0 1 = cc in absurd (omega arith)
+  by_fit : (t : Bool) → unwrap_or (cond t (Some (10 ^ 6 * s / c)) None) no_limit ≡ cond t (10 ^ 6 * s / c) no_limit
+  by_fit true = refl
+  by_fit false = refl
 
-  by_over : (t : Bool) → cond t (Word (10 ^ 6 * s / c)) Over ≡ Over → no_limit ≡ cond t (10 ^ 6 * s / c) no_limit
-  by_over true e = let none : ◌≡◌ {A = ℕ} 0 1 = cc in absurd (omega arith)
-  by_over false e = refl
-
-  pub word-given : {n : ℕ} → (c ≡ 0 → ⊥) → fitted (10 ^ 6 * s / c) ≡ Word n → n ≡ longest_word c s
+  pub word-given : (c ≡ 0 → ⊥) → unwrap_or (fitted (10 ^ 6 * s / c)) no_limit ≡ longest_word c s
   unfolding longest_word in_word fitted
-  word-given f e = rw (ne_eqb c 0 f) (by_word (ltb (10 ^ 6 * s / c) (2 ^ 64)) e)
-
-  pub over_given : (c ≡ 0 → ⊥) → fitted (10 ^ 6 * s / c) ≡ Over → no_limit ≡ longest_word c s
-  unfolding longest_word in_word fitted
-  over_given f e = rw (ne_eqb c 0 f) (by_over (ltb (10 ^ 6 * s / c) (2 ^ 64)) e)
+  word-given f = rw (ne_eqb c 0 f) (by_fit (ltb (10 ^ 6 * s / c) (2 ^ 64)))
 
   pub none_given : c ≡ 0 → no_limit ≡ longest_word c s
   unfolding longest_word
@@ -167,7 +151,7 @@ module _ (r : Record) (h : TooLongFor r) where
   counts = counts_hold_lem r.site v.counts
 
   abbrev f : ℕ → ℕ
-  f = cell_longest r.site.columns r.screen r.horizontal r.vertical r.storages
+  f = slot_longest r
 
   pub well_word : longest_word (well_sum r.site.layers r.screen) r.well_storage ≡ word N 0
   unfolding storage_at network_of grid_of one_per_place

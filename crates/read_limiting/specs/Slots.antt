@@ -35,6 +35,10 @@ unfoldable pub cell_longest : ℕ → List ℕ → List ℕ → List ℕ → Lis
 cell_longest columns screen horizontal vertical storages k =
     cond (leb columns (k % 50 + 1)) no_limit (longest_word (cell_sum screen horizontal vertical k) (get_or storages k 0))
 
+-- the same in a record's slots
+abbrev pub slot_longest : Record → ℕ → ℕ
+slot_longest r = cell_longest r.site.columns r.screen r.horizontal r.vertical r.storages
+
 -- whether f is less at q than at p
 unfoldable pub less_at : (ℕ → ℕ) → ℕ → ℕ → Bool
 less_at f q p = ltb (f q) (f p)

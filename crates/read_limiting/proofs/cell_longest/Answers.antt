@@ -4,10 +4,10 @@ use borrow.Author.Tests.{lt-leb}
 use Rattle.read_limiting.specs.Slots.{no_limit, cell_longest}
 use Rattle.read_limiting.proofs.cell_longest.Goals as goal
 
-pub returns-then-columns-k : goal.returns-then-columns-k
+pub returns-then-rec-k : goal.returns-then-rec-k
 unfolding cell_longest no_limit
-returns-then-columns-k c = rw (le-leb _ _ c.if-columns-k.true)
+returns-then-rec-k c = rw (le-leb _ _ c.if-rec-k.true)
 
-pub returns : goal.returns
+pub returns-else-rec-k : goal.returns-else-rec-k
 unfolding cell_longest
-returns c = rw (lt-leb _ _ c.if-columns-k.false, ← c.cell_sum.ensures) c.longest.ensures
+returns-else-rec-k c = rw (lt-leb _ _ c.if-rec-k.false, ← c.cell_sum.ensures) c.longest.ensures

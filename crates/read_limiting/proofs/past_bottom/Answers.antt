@@ -1,5 +1,5 @@
 -- `read_limiting::past_bottom`: the deepest slot of layer 1 after the step is the deepest cell.
-use Rattle.std.proofs.Common.{arith}
+use Rattle.std.proofs.Common.{arith, ◌≡◌, true}
 use Rattle.site.specs.Laws.{counts_hold_lem}
 use Rattle.site.specs.Limited.{Counts}
 use Rattle.validity.specs.Laws.{valid_record}
@@ -7,7 +7,6 @@ use Rattle.read_limiting.proofs.DeepestCell.{after_shallow, bottom_answer}
 use Rattle.read_limiting.proofs.past_bottom.Goals as goal
 use Rattle.record.specs.declared.Record.{Record}
 use Rattle.validity.specs.Validity.{valid}
-use Rattle.std.proofs.Common.{◌≡◌, true}
 
 counts : (r : Record) → valid r ≡ true → Counts r.site
 counts r ok = counts_hold_lem _ (valid_record _ ok).counts

@@ -22,7 +22,7 @@ well-is : (r : Record) → TooLongFor r → {n w : ℕ} → w ≡ well_sum r.sit
 well-is r h e q = q ∙ ap (λ c. longest_word c r.well_storage) e ∙ well_word r h
 
 pub well_sum-requires : goal.well_sum-requires
-well_sum-requires c = let a = steady_asks _ c.requires.passed in (a.0, a.1.well)
+well_sum-requires c = let a = steady_asks _ c.requires.passed in (omega (arith, a.0), a.1.well)
 
 pub overflow_mul-layers : goal.overflow_mul-layers
 overflow_mul-layers c = omega (arith, (counts _ c.requires).layers_most)
@@ -38,7 +38,7 @@ returns-then-well-cell c =
 pub place_of-requires : goal.place_of-requires
 place_of-requires c = omega (arith, c.shortest_cell-cell.ensures.slot_value.1, (counts _ c.requires).layers_most)
 
-pub returns : goal.returns
-returns c =
+pub returns-else-well-cell : goal.returns-else-well-cell
+returns-else-well-cell c =
     ap (λ p. Limiting.TooLong p c.shortest_cell-cell.result.longest) c.place_of.ensures
     ∙ cell_answer _ c.requires (well-is _ c.requires c.well_sum.ensures c.longest-well.ensures) c.shortest_cell-cell.ensures.slot_value.0 c.shortest_cell-cell.ensures.longest_value (omega (arith, c.if-well-cell.false))
