@@ -42,7 +42,7 @@ fn is_deep(depths: &[u64; CELL_PLACES], depth: u64, k: usize) -> bool
     depth < depths[k]
 }
 
-// How many of the first n slots are deeper.
+// How many of the first n slots are deeper. Tried as filter and count: the proof of `returns`, which speaks of `below`, did not close.
 fn count_deep(depths: &[u64; CELL_PLACES], depth: u64, n: usize) -> usize
     requires { n ≤ 1000 }
     ensures { result ≡ length (below (deep_at depth depths.now) code_of n) }
