@@ -1,8 +1,8 @@
 // A caller of the library, as README shows it: the well's drawdown after one step of the scenario text on standard input, or a refusal number.
 #![tactic(auto)]
 
-use input::read_full;
 use limits::TEXT_LIMIT;
+use listing_input::read_full;
 use readings::Place;
 use refusals::Refusal;
 use std::io;

@@ -4,7 +4,7 @@
 
 ghost use Rattle.std.specs.Io.{ReadsAtMost};
 
-use input::read_full;
+use listing_input::read_full;
 use refusals::Refusal;
 use std::fs;
 use std::io::{self, Write};

@@ -2,8 +2,8 @@
 // could not be read whole gets no answer.
 #![tactic(auto)]
 
-use input::read_full;
 use limits::TEXT_LIMIT;
+use listing_input::read_full;
 use std::io::{self, ErrorKind, Read};
 
 // Says what could not be done. Where standard error cannot be written either, nothing is left to say it on.
