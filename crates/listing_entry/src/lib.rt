@@ -15,9 +15,10 @@ use refusals::Refusal;
 fn refused_line(number: u64, refusal: Refusal) -> Line
     ensures { HoldsLine (refused_line number (refusal_number refusal)) result }
 {
+    let refused = refusal.number();
     let word = with_word(empty(), b"refused ");
     let entry = with_number(word, number, b' ');
-    with_number(entry, refusal.number(), b'\n')
+    with_number(entry, refused, b'\n')
 }
 
 fn figures_line(number: u64, time: u64, well: i64, totals: Totals) -> Line

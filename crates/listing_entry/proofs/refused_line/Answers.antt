@@ -12,5 +12,5 @@ returns c =
     let entry = c.with_number-entry in
     let word = c.with_word-word in
     let empty = c.empty in
-    holds _ (held_then _ _ (held_then _ _ (held_then _ _ empty.ensures.0 word.ensures.0) entry.ensures.0) (rw c.number.ensures at c.with_number.ensures.0) ∙ ap held (simp append_assoc refl))
+    holds _ (held_then _ _ (held_then _ _ (held_then _ _ empty.ensures.0 word.ensures.0) entry.ensures.0) (rw c.number-refused.ensures at c.with_number.ensures.0) ∙ ap held (simp append_assoc refl))
     (omega (arith, c.with_number.ensures.1, entry.ensures.1, word.ensures.1, empty.ensures.1))
