@@ -4,6 +4,7 @@
 // bore K then keeps, 2×A_1×Kv_2/b_2, rounded down; that of R_0 to 5001 has the largest grid's.
 // Changed losses have a mark with them (document 02, N1) that is no less than the drawdowns that bore K then has, so that a change is refused
 // for what it is there for; one that is less is in the group `marks`, and where no word holds the drawdown.
+// A match by number is no plainer as an enum: the number of a change is what is printed, and tests/stored has it.
 use record::Record;
 use site::Site;
 
