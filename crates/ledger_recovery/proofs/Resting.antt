@@ -4,12 +4,11 @@
 --     lost_is                 the losses of its well and cells, and its inflow, are together its pumped total
 --     no_intake               10 refuses no step at rate 0 on it
 --     rest_each, rest_all     what each call of a list leaves, and what all of them do
-use Rattle.std.proofs.Common.{◌≡◌, ℕ, zero, suc, ◌+◌, ◌*◌, ◌<◌, Bool, true, false, not, ltb, List, [], ◌∷◌, ℤ, pos, ◌+ℤ◌, ◌-ℤ◌, neg_ℤ, nat_abs, ◌≤ℤ◌, Ok, Err, sym, refl, ap, ◌∙◌, subst, add-zero, zero-mul, arith, lt-ltb, eqb-true}
+use Rattle.std.proofs.Common.{◌≡◌, ℕ, zero, suc, ◌+◌, ◌*◌, ◌<◌, Bool, true, false, not, ltb, List, [], ◌∷◌, ℤ, pos, ◌+ℤ◌, ◌-ℤ◌, neg_ℤ, nat_abs, ◌≤ℤ◌, Ok, sym, refl, ap, ◌∙◌, subst, add-zero, zero-mul, arith, lt-ltb, eqb-true}
 use mathlib.Core.List.{Memᴰ}
 use lib.IntN.{+ℤ_idl, neg_ℤ-+ℤ, neg_ℤ-neg_ℤ, +ℤ-neg_ℤ_cancel}
 use lib.Signed.{lt_z, ≤ℤ_refl, lt_z_yes, clash_ℤ}
-use Rattle.refusals.specs.declared.Refusal.{Refusal}
-use Rattle.refusals.specs.Refusals.{refusal, given}
+use Rattle.refusals.specs.Refusals.{refusal, given, outcome_of}
 use Rattle.refusals.specs.Laws.{same_number}
 use borrow.Author.Tests.{not-false}
 use Rattle.laws.specs.All.{and_left, and_right}
@@ -138,10 +137,10 @@ module _ (r : Record) (ok : valid r ≡ true) where
       by_tests false false true false false true h n = omega arith
       by_tests false false true false false false h n = omega arith
 
-  pub no_intake : (dt : ℕ) → (step_of r 0 dt).outcome ≡ Err Refusal.PastIntake → ⊥
-  unfolding refusal
+  pub no_intake : (dt : ℕ) → (step_of r 0 dt).outcome ≡ outcome_of 10 → ⊥
+  unfolding given
   no_intake dt e =
-      let number = refusal_of (step_refusal r 0 dt) Refusal.PastIntake (sym (step_outcome r 0 dt) ∙ e) in
+      let number = refusal_of (step_refusal r 0 dt) (refusal 10) (sym (step_outcome r 0 dt) ∙ e) in
       not_10 0 dt refl (same_number (step_refusal r 0 dt) 10 (omega (arith, number.1)) (omega arith) (omega arith) number.0)
 
 -- ---- one call at rest

@@ -1,9 +1,9 @@
 -- Levels after the pump stops (document 02, N14): what holds of a record that 14 does not refuse and of a list of calls on it in which every step has
 -- rate 0, in what the readings give.
 -- Units: D and mark µm; losses and totals nl; Δt µs.
-use Rattle.std.specs.Prelude.{◌≡◌, ℕ, Bool, true, eqb, List, [], ◌∷◌, map, ℤ, ◌+ℤ◌, ◌-ℤ◌, neg_ℤ, ◌≤ℤ◌, Ok, Err}
+use Rattle.std.specs.Prelude.{◌≡◌, ℕ, Bool, true, eqb, List, [], ◌∷◌, map, ℤ, ◌+ℤ◌, ◌-ℤ◌, neg_ℤ, ◌≤ℤ◌, Ok}
 use mathlib.Core.List.{flat_map}
-use Rattle.refusals.specs.declared.Refusal.{Refusal}
+use Rattle.refusals.specs.Refusals.{outcome_of}
 use Rattle.laws.specs.Lists.{larger}
 use Rattle.network.specs.Network.{drawdown}
 use Rattle.network.specs.Grid.{Grid, stored_columns, layers_of, place, network_of}
@@ -79,4 +79,4 @@ pub record Recovers (r : Record) (calls : List Call) : Type 0 where
   pub stored : lost ended.totals -ℤ lost begun.totals ≡ neg_ℤ (ended.totals.inflow -ℤ begun.totals.inflow)
   -- with the mark in the record (N1): it stays, and 10 refuses no further step at rate 0
   pub mark : ended.totals.mark ≡ begun.totals.mark
-  pub intake : (dt : ℕ) → (step_of (left_by_all r calls) 0 dt).outcome ≡ Err Refusal.PastIntake → ⊥
+  pub intake : (dt : ℕ) → (step_of (left_by_all r calls) 0 dt).outcome ≡ outcome_of 10 → ⊥
