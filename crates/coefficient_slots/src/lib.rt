@@ -12,18 +12,23 @@ use record::Record;
 pub fn slot_used(layers: usize, columns: usize, k: usize) -> bool
     ensures { result ≡ used_slot (inside layers columns) k }
 {
-    k / COLUMN_PLACES < layers && k % COLUMN_PLACES + 1 < columns
+    if layers <= k / COLUMN_PLACES {
+        return false;
+    }
+    k % COLUMN_PLACES + 1 < columns
 }
 
 #[tactic(auto, unfolding(crate::specs::Held::slot_holds))]
 fn slot_holds(layers: usize, columns: usize, lo: u64, hi: u64, k: usize, value: u64) -> bool
     ensures { result ≡ slot_holds layers columns lo hi k value }
 {
-    if slot_used(layers, columns, k) {
-        lo <= value && value <= hi
-    } else {
-        value == 0
+    if !slot_used(layers, columns, k) {
+        return value == 0;
     }
+    if value < lo {
+        return false;
+    }
+    value <= hi
 }
 
 // An array by cell, of which the slots of the first so many layers are used, but for the last column's.

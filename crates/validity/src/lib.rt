@@ -16,5 +16,9 @@ pub fn valid(record: Record) -> bool
         && record.well_storage == geometry::well_storage(record.site.water_area)
         && validity_table::table_kept(&record)
         && validity_totals::totals_hold(&record)
-        && validity_drawdowns::drawdowns_hold(&record)
+        && validity_drawdowns::drawdowns_hold(
+            &record,
+            1000 * record.site.thickness[0],
+            1000 * record.site.intake,
+        )
 }

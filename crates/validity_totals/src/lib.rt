@@ -20,10 +20,12 @@ fn loss_slots_hold(rec: &Record) -> bool
 {
     let layers = rec.site.layers as usize;
     let columns = rec.site.columns as usize;
-    rec.losses
-        .iter()
-        .enumerate()
-        .all(|(k, loss)| loss_slot_holds(layers, columns, k, *loss))
+    for k in 0..CELL_PLACES {
+        if !loss_slot_holds(layers, columns, k, rec.losses[k]) {
+            return false;
+        }
+    }
+    true
 }
 
 // Whether the cells' losses and the rest add up to the total. What is left of the total is kept, so that no sum can wrap.
