@@ -7,7 +7,10 @@
 --     taken             and where none does
 --     larger_is         std's larger of two integers is the definition's; marks: what the mark after a step is worked out by
 --     judged            the number of 10 and 11 is the one that halts the step, where 9 does not
-use Rattle.std.proofs.Common.{Ok, Err, Bool, cond, ltb, leb, pos, negsuc, lt-ltb, le-ltb, le-leb, ⊎_elim, ◌≡◌, refl, sym, true, false, List, ℕ, zero, suc, ◌+◌, ◌*◌, ◌^◌, ◌≤◌, ◌<◌, mul-le-mul, arith, ℤ, neg_ℤ, nat_abs, ◌+ℤ◌, ◌≤ℤ◌, w64, to_z, of_z, to_z-of_z}
+--     restored          the losses before the step, where the slots before the last layer's last column are given back
+use Rattle.std.proofs.Common.{Ok, Err, Bool, cond, ltb, leb, pos, negsuc, lt-ltb, le-ltb, le-leb, ⊎_elim, inl, inr, ◌≡◌, refl, sym, ◌∙◌, true, false, List, ℕ, zero, suc, ◌+◌, ◌*◌, ◌-◌, ◌%◌, ◌^◌, ◌≤◌, ◌<◌, mul-le-mul, arith, ℤ, neg_ℤ, nat_abs, ◌+ℤ◌, ◌≤ℤ◌, w64, to_z, of_z, to_z-of_z, length, get_or, replicate, ext_get_or}
+use Rattle.std.proofs.lemmas.List.{length-replicate}
+use Rattle.laws.specs.Fill.{fill, length-fill, get_or-fill, get_or-fill_rest, get_or_same}
 use Rattle.laws.specs.Integer.{≤ℤ_up, abs_up_to, not_past}
 use Rattle.laws.specs.Refusal.{first_is, passed}
 use Rattle.laws.specs.Refusal.First.{hit}
@@ -15,7 +18,7 @@ use Rattle.std.specs.Int.{int_max}
 use borrow.Author.Tests.{lt-leb}
 use Rattle.laws.specs.Number.{below_or_not}
 use Rattle.laws.specs.Signed.{back, read, small_fits, abs_add, room_fits, room_sum}
-use Rattle.laws.specs.Lists.{larger, sumℤ, range, first}
+use Rattle.laws.specs.Lists.{larger, ifℤ, sumℤ, range, first}
 use Rattle.limits.specs.Limits.{rate_limit, length_limit, total_limit, drawdown_limit}
 use Rattle.refusals.specs.declared.Refusal.{Refusal}
 use Rattle.refusals.specs.Refusals.{refusal, given, outcome_of}
@@ -23,7 +26,7 @@ use Rattle.record.specs.Laws.{refusal_of}
 use Rattle.validity_drawdowns.specs.Drawdowns.{deeper}
 use Rattle.step_drawdowns.specs.Drawdowns.{depth_of}
 use Rattle.step_sweep.specs.declared.Terms.{Terms}
-use Rattle.step_sweep.specs.Worked.{Lent, lent, well_flow, to_last, well_after, inflow_after, losses_of}
+use Rattle.step_sweep.specs.Worked.{Lent, lent, slot_count, well_flow, to_last, slot_after, well_after, inflow_after, losses_of, Unused}
 use Rattle.step_judged.specs.declared.Course.{Course}
 use Rattle.step_judged.specs.declared.Advanced.{Advanced}
 use Rattle.step_conditions.specs.Conditions.{totals_full}
@@ -99,6 +102,42 @@ pub judged : {v : ℤ} {ls : List ℤ} (terms : Terms) (well inflow : ℤ) (area
     totals_full c.pumped c.time terms.rate terms.dt ≡ false → v ≡ well_after a → ls ≡ losses_of a → too_deep terms v storages ls ≡ halts a terms.intake c
 unfolding too_deep halts first
 judged terms well inflow areas screen horizontal vertical storages losses c room w l = rw (room, w, l)
+
+-- ---- the losses given back
+
+module _ {a : Lent} {p : ℕ} {c : Course} (q : Advancing a p c) where
+  long : length (losses_of a) ≡ 1000
+  unfolding losses_of
+  long = length-fill (slot_after a) (replicate 1000 (pos 0)) (slot_count a) ∙ length-replicate 1000 (pos 0)
+
+  none_lost : (k : ℕ) → k < 1000 → Unused a.layers a.columns k → get_or (losses_of a) k (pos 0) ≡ pos 0
+  unfolding losses_of slot_after ifℤ
+  none_lost k h u = ⊎_elim
+      (λ lt. get_or-fill (slot_after a) (replicate 1000 (pos 0)) (slot_count a) k (pos 0) lt (omega (arith, length-replicate 1000 (pos 0))) ∙ rw (le-ltb (k % 50 + 1) a.columns (⊎_elim (λ m. absurd (omega arith)) (λ m. m) u)))
+      (λ le. get_or-fill_rest (slot_after a) (replicate 1000 (pos 0)) (slot_count a) k (pos 0) le ∙ get_or_same 1000 k (pos 0))
+      (below_or_not k (slot_count a))
+
+  given_back : length a.losses ≡ 1000 → fill (50 * (a.layers - 1) + (a.columns - 1)) (λ k. get_or a.losses k (pos 0)) (losses_of a) ≡ a.losses
+  given_back e = ext_get_or (pos 0) (fill n old (losses_of a)) a.losses (same ∙ sym e)
+      (λ k h. ⊎_elim
+      (λ lt. get_or-fill old (losses_of a) n k (pos 0) lt (omega (arith, h, same, long)))
+      (λ le. get_or-fill_rest old (losses_of a) n k (pos 0) le ∙ none_lost k (omega (arith, h, same)) (past k le) ∙ sym (q.workable.unused k (omega (arith, h, same)) (past k le)))
+      (below_or_not k n))
+    where
+      n : ℕ
+      n = 50 * (a.layers - 1) + (a.columns - 1)
+
+      old : ℕ → ℤ
+      old k = get_or a.losses k (pos 0)
+
+      same : length (fill n old (losses_of a)) ≡ 1000
+      same = length-fill old (losses_of a) n ∙ long
+
+      past : (k : ℕ) → n ≤ k → Unused a.layers a.columns k
+      past k le = ⊎_elim (λ lt. inr (omega (arith, q.workable.columns, q.workable.layers))) inl (below_or_not k (50 * a.layers))
+
+  pub restored : {old ls : List ℤ} → length old ≡ 1000 → old ≡ a.losses → ls ≡ losses_of a → fill (50 * (a.layers - 1) + (a.columns - 1)) (λ k. get_or old k (pos 0)) ls ≡ a.losses
+  restored e o l = rw (o, l) (given_back (rw o at e))
 
 -- ---- the mark
 

@@ -2,6 +2,7 @@
 #![tactic(auto)]
 
 ghost use Rattle.std.specs.Prelude.{◌≡◌, ◌+◌, ◌*◌, ◌-◌, ◌≤◌, ◌<◌, pos, ◌≤ℤ◌, get_or};
+ghost use Rattle.laws.specs.Fill.{fill};
 ghost use Rattle.laws.specs.Lists.{larger};
 ghost use Rattle.limits.specs.Limits.{drawdown_limit};
 ghost use Rattle.refusals.specs.Refusals.{outcome_of};
@@ -31,6 +32,22 @@ pub struct Course {
 pub struct Advanced {
     pub outcome: Result<(), Refusal>,
     pub course: Course,
+}
+
+// The losses as they were, in the slots before the last layer's last column.
+fn restore(
+    before: &[i64; CELL_PLACES],
+    layers: usize,
+    columns: usize,
+    losses: &mut [i64; CELL_PLACES],
+)
+    requires { (1 ≤ layers) × (layers ≤ 20) × (1 ≤ columns) × (columns ≤ 50) }
+    ensures { losses.new ≡ fill (50 * (layers - 1) + (columns - 1)) (λ k. get_or before.now k (pos 0)) losses.old }
+{
+    let n = COLUMN_PLACES * (layers - 1) + (columns - 1);
+    for k in 0..n {
+        losses[k] = before[k];
+    }
 }
 
 // What 10 and 11 say of a step: `well_loss` and `losses` are those after it.
@@ -95,7 +112,7 @@ pub fn advance(
         work,
     );
     if let Err(refusal) = too_deep(terms, swept.well_loss, &rec.storages, losses) {
-        *losses = work.before;
+        restore(&work.before, terms.layers, terms.columns, losses);
         return Advanced {
             outcome: Err(refusal),
             course,

@@ -11,7 +11,7 @@ use Rattle.step_sweep.specs.Worked.{Lent, well_after, inflow_after, worked_of}
 use Rattle.step_judged.specs.declared.Course.{Course}
 use Rattle.step_judged.specs.declared.Advanced.{Advanced}
 use Rattle.step_judged.specs.Course.{halts, advanced_of, kept_of, Advancing}
-use Rattle.step_judged.proofs.Laws.{well_back, inflow_back, mark_back, well_after_back, inflow_after_back, depth_within, halted_is, halted_9, taken, judged}
+use Rattle.step_judged.proofs.Laws.{well_back, inflow_back, mark_back, well_after_back, inflow_after_back, depth_within, halted_is, halted_9, taken, judged, restored}
 use Rattle.step_judged.proofs.advance.Goals as goal
 
 module _ {a : Lent} {p : ℕ} {k : Course} (q : Advancing a p k) where
@@ -49,7 +49,7 @@ returns-in-Err c =
     let w = rw (well_back q, inflow_back q) at c.work_step-swept.ensures in
     let number = judged _ _ _ _ _ _ _ _ _ _ (sym c.totals_pass.ensures ∙ c.if-totals_pass.false) (well_worked q w.answer) w.losses in
     let h = by_number q _ (sym c.too_deep.ensures ∙ c.in-Err.is) number in
-    record { answer = h.0; losses = w.kept ∙ h.1; scratch = w.scratch }
+    record { answer = h.0; losses = c.restore.ensures ∙ restored q w.scratch.long.3 w.kept w.losses ∙ h.1; scratch = w.scratch }
 
 pub drawdown_by-well_depth-requires : goal.drawdown_by-well_depth-requires
 drawdown_by-well_depth-requires c =
