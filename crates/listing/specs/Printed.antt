@@ -1,13 +1,16 @@
 -- What the pieces print, one after the other, is the listing: laws only, nothing to believe.
 --     next_past        no text has an entry after 500
 --     after_entry, after_last   what is printed after the first entries, where another follows, and where none does
+--     entry_bounded    the run of an entry takes no longer than it can, and what refuses it has a number of document 01
+--     text_numbered    what refuses a text has one too
 --     line_short       the line of an entry has at most 114 bytes, if those before it took no longer than they can
 --     listing_printed  the bytes of all pieces are the listing
 --     short            the line after the first k entries of a text has at most 114 bytes
 use Rattle.std.specs.Prelude.{◌≡◌, List, [], ◌∷◌, ◌++◌, map, ℕ, zero, suc, ◌+◌, ◌-◌, ◌*◌, ◌^◌, ◌≤◌, length, Some, None, Result, Ok, Err}
 use Rattle.std.proofs.Common.{refl, sym, ap, ap₂, ◌∙◌, append-nil, arith, lit≤, length-append}
 use Rattle.std.proofs.Math.Nat.{mul-le-mul_right}
-use Rattle.laws.specs.Lists.{range}
+use Rattle.laws.specs.Lists.{every, range}
+use Rattle.laws.specs.Refusal.{first_most}
 use Rattle.decimal.specs.Decimal.{digits_of}
 use Rattle.decimal.specs.Laws.{few_digits}
 use Rattle.text.specs.Text.{numbers}
@@ -15,15 +18,16 @@ use Rattle.limits.specs.Limits.{length_limit}
 use Rattle.refusals.specs.declared.Refusal.{Refusal}
 use Rattle.refusals.specs.Refusals.{refusal_number}
 use Rattle.sections.specs.declared.Entry.{Entry}
-use Rattle.sections.specs.Sections.{entries_of, entry_at}
+use Rattle.sections.specs.Sections.{form_tests, section_tests, entries_of, entry_at}
 use Rattle.record.specs.declared.Record.{Record}
 use Rattle.record.specs.Record.{zero_record, answer_of}
 use Rattle.record.specs.Laws.{outcome_of_lem, taken_of}
 use Rattle.coefficients.specs.Coefficients.{start_record}
-use Rattle.scenario.specs.Scenario.{scenario_of, text_refusal, start_of, entry_of}
+use Rattle.scenario.specs.Scenario.{scenario_of, number_tests, text_tests, text_refusal, start_of, entry_of}
 use Rattle.listing_lines.specs.Word.{word}
 use Rattle.listing_lines.specs.Lines.{line_feed, line_from, line_bytes, held}
 use Rattle.listing_lines.specs.Laws.{take-padded}
+use Rattle.listing_runs.specs.Bounded.{most_refusal, Numbered, Bounded, numbered, run_bounded}
 use Rattle.listing_runs.specs.Time.{run_time}
 use Rattle.listing_entry.specs.EntryLine.{entry_line}
 use Rattle.listing_entry.specs.Length.{number_most, entry_short}
@@ -61,6 +65,10 @@ module _ (text : List ℕ) (r : Record) (done : ℕ) (time : r.time ≤ done * e
   time_after =
       let most : e.repeats ≤ 1000000 = rw there.entry at (repeats_most text there.accepted (suc done - 1) (omega (arith, there.most))) in
       omega (arith, run_time e.rate e.length e.repeats (done * entry_time) r time, mul-le-mul_right length_limit most)
+
+  pub entry_bounded : Bounded (suc done * entry_time) (entry_run r e)
+  unfolding entry_run
+  entry_bounded = record { time = time_after; number = (run_bounded e.rate e.length e.repeats (done * entry_time) r time).number }
 
   pub line_short : length (entry_line (suc done) (entry_run r e)) ≤ 114
   line_short =
@@ -111,6 +119,14 @@ module _ (text : List ℕ) where
   start_time : (start_of text).«record».time ≡ 0
   unfolding start_of start_record zero_record
   start_time = answer_time zero_record (start_record (scenario_of text)) (text_refusal text) refl refl
+
+  text_number : text_refusal text ≤ most_refusal
+  unfolding text_refusal text_tests form_tests section_tests number_tests every
+  text_number = first_most most_refusal (text_tests text) refl
+
+  pub text_numbered : Numbered (start_of text).outcome
+  unfolding start_of
+  text_numbered k e = numbered (text_refusal text) text_number k (sym (outcome_of_lem (text_refusal text) zero_record _) ∙ e)
 
   listing_taken : (start_of text).outcome ≡ Ok tt → listing_of text ≡ header_line ++ lines_of 1 (pumping_in text) (start_of text).«record»
   unfolding listing_of
