@@ -3,7 +3,7 @@
 // Rates are in ml/s, lengths of steps in µs.
 #![tactic(auto)]
 
-ghost use Rattle.std.specs.Prelude.{◌≡◌, true, List, ℕ};
+ghost use Rattle.std.specs.Prelude.{◌≡◌, true, List, ℕ, find, reverse};
 ghost use Rattle.record.specs.declared.Record.{Record};
 ghost use Rattle.validity.specs.Validity.{valid};
 ghost use Rattle.step.specs.Repeat.{repeat_of};
@@ -48,16 +48,23 @@ fn list_holds(rates: &[u64], steps: u64) -> bool
         && steps <= CHOICE_STEP_LIMIT
 }
 
-// The highest rate at which all steps are taken, tried from the highest down: nothing says that a lower rate is safer.
-fn highest(record: Record, rates: &[u64], dt: u64, steps: u64) -> Option<u64>
-    requires { (valid «record» ≡ true) × (rising rates.now ≡ true) }
-    ensures { result ≡ best_of (passing (λ rate. all_accepted rate dt steps «record») rates.now) }
+// The first rate from the end of the list at which all steps are taken.
+fn last_taken(record: Record, rates: &[u64], dt: u64, steps: u64) -> Option<u64>
+    ensures { result ≡ find (λ rate. is_taken (repeat_of «record» rate dt steps).outcome) (reverse rates.now) }
 {
     rates
         .iter()
         .rev()
         .copied()
         .find(|rate| all_taken(record, *rate, dt, steps))
+}
+
+// The highest rate at which all steps are taken, tried from the highest down: nothing says that a lower rate is safer.
+fn highest(record: Record, rates: &[u64], dt: u64, steps: u64) -> Option<u64>
+    requires { (valid «record» ≡ true) × (rising rates.now ≡ true) }
+    ensures { result ≡ best_of (passing (λ rate. all_accepted rate dt steps «record») rates.now) }
+{
+    last_taken(record, rates, dt, steps)
 }
 
 // 14, then 20, then the rates.

@@ -48,7 +48,10 @@ fn judge(text: &[u8]) -> Result<Accepted, Refusal>
     ensures { MatchResult result (λ a. Accepts text.now a) (λ refused. outcome_of (text_refusal text.now) ≡ Err refused) }
 {
     let read = text::read(text).ok_or(Refusal::Lines)?;
-    let layout = sections::layout_of(read.count, &read.values)?;
+    let layout = match sections::layout_of(read.count, &read.values) {
+        Ok(layout) => layout,
+        Err(refused) => return Err(refused),
+    };
     let repeats = sections::repeats_hold(&read.values, layout);
     let record = made(sections::site_of(&read.values, layout), repeats)?;
     Ok(Accepted {
@@ -89,6 +92,8 @@ fn found(values: &[u64; NUMBER_PLACES], layout: Layout, number: u64) -> Result<E
 pub fn pumping_entry(text: &[u8], number: u64) -> Result<Entry, Refusal>
     ensures { result ≡ entry_of text.now number }
 {
-    let accepted = judge(text)?;
-    found(&accepted.values, accepted.layout, number)
+    match judge(text) {
+        Ok(accepted) => found(&accepted.values, accepted.layout, number),
+        Err(refused) => Err(refused),
+    }
 }
